@@ -1,0 +1,6 @@
+pub mod Buffers
+pub mod Costs
+pub mod Hex
+pub mod Keys
+pub mod Panels
+pub mod States

@@ -1,0 +1,6 @@
+pub mod Bytes
+pub mod Faults
+pub mod Lines
+pub mod Refusals
+pub mod Tokens
+pub mod Words

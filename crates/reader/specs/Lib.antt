@@ -1,3 +1,4 @@
+pub mod Arises
 pub mod Bytes
 pub mod Faults
 pub mod Lines

@@ -1,0 +1,53 @@
+use mathlib.Core.Path.{_≡_, refl, sym, ap, subst, _∙_}
+use mathlib.Core.List.{List, [], _∷_, _++_, append-assoc}
+use native.Mathlib.Omega.{arith}
+use Prim.Native.Nat.{ℕ}
+use Rattle.std.proofs.shelf.Results.{err-from-errBy}
+use Rattle.std.proofs.shelf.Tests.{cond-true}
+use Rattle.std.specs.declared.option.Option.the-variants.{Some, None}
+use Rattle.std.specs.declared.result.Result.the-variants.{Ok, Err}
+use Rattle.captions.specs.Captions.{AddsCaptions, held, quotes, quotes-read}
+use Rattle.captions.proofs.Gathering.{onto, onto-push, onto-all, onto-none, quotes-push}
+use Rattle.reader.specs.Faults.{fault-at}
+use Rattle.reader.specs.Tokens.{at-place, told, Moves}
+use Rattle.reader.specs.Words.{words, words-from}
+use Rattle.reader.specs.declared.refusal.Refusal.the-variants.{UnreadableWord}
+use Rattle.captions.proofs.read.add_captions.Needs as need
+
+pub returns-in-Break-token : need.returns-in-Break-token
+returns-in-Break-token c =
+    let p = err-from-errBy (c .from-residual-in-Break-token .result) (c .from-residual-in-Break-token .ensures .1) in
+    let read = c .in-Break-token .ensures tt in
+    let inv = c .loop-token .inv in
+    let none : words (c .args .line .bytes .now) ≡ None = cond-true _ _ _ (c .in-Continue-words .ensures tt .0) ∙ inv .1 ∙ ap (onto (inv .0)) (read .words) ∙ onto-none (inv .0) in
+    rw (p .1, p .2) (none, ap (fault-at UnreadableWord) (read .moves .1 ∙ inv .3))
+
+pub loop-token-again : need.loop-token-again
+loop-token-again c =
+    let inv = c .loop-token .inv in
+    let read = c .in-Continue-token .ensures tt in
+    let w = c .loop-token .words in
+    let v = c .next-word .last .self in
+    let token = c .in-Some .token in
+    let found = at-place (token .place) (token .word) in
+    let left = words-from (v .line .now) (v .at) in
+    let step = read .words ∙ ap (λ f. told (Ok f) left) (c .in-Some .is) in
+    let moved = subst (λ f. Moves w (Ok f) v) (c .in-Some .is) (read .moves) in
+    (
+      inv .0 ++ found ∷ [],
+      inv .1 ∙ ap (onto (inv .0)) step ∙ sym (onto-push (inv .0) found left),
+      c .in-Continue-add-caption .ensures tt ∙ ap (λ l. l ++ quotes (found ∷ [])) (inv .2) ∙ append-assoc (held (c .args .captions .now)) (quotes (inv .0)) (quotes (found ∷ [])) ∙ ap (λ l. held (c .args .captions .now) ++ l) (sym (quotes-push (inv .0) found)),
+      moved .1 .1 .1 ∙ inv .3,
+    )
+
+pub returns : need.returns
+returns c =
+    let inv = c .loop-token .inv in
+    let read = c .in-Continue-token .ensures tt in
+    let v = c .next-word .last .self in
+    let step = read .words ∙ ap (λ f. told (Ok f) (words-from (v .line .now) (v .at))) (c .in-rest .is) in
+    let all : words (c .args .line .bytes .now) ≡ Some (inv .0) = cond-true _ _ _ (c .in-Continue-words .ensures tt .0) ∙ inv .1 ∙ ap (onto (inv .0)) step ∙ onto-all (inv .0) in
+    (
+      λ none. let z : _≡_ {A = ℕ} 0 1 = cc in omega arith,
+      inv .2 ∙ ap (λ o. held (c .args .captions .now) ++ quotes-read o) (sym all),
+    )

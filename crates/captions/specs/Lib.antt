@@ -1,0 +1,3 @@
+pub mod Captions
+pub mod Errors
+pub mod Sheets

@@ -1,2 +1,3 @@
+pub mod Lying
 pub mod Reading
 pub mod Splitting

@@ -3,7 +3,7 @@ use mathlib.Core.Path.{_≡_}
 use mathlib.Core.Bool.{true, false}
 use mathlib.Core.List.{List, []}
 use Prim.Native.Nat.{ℕ, _<_, _≤_}
-use lib.ListN.{length}
+use lib.ListN.{length, take, drop}
 use Rattle.std.specs.declared.option.Option.{Option}
 use Rattle.std.specs.declared.option.Option.the-variants.{Some, None}
 use Rattle.std.specs.declared.result.Result.{Result}
@@ -46,3 +46,9 @@ abbrev pub Moves : Words → Result (Option Token) WordFault → Words → Type 
 Moves w (Ok None) v = v ≡ w
 Moves w (Ok (Some token)) v = (w .at < v .at) × ((v .at ≤ length (w .line .now)) × ((v .line ≡ w .line) × (v .number ≡ w .number)))
 Moves w (Err fault) v = (v ≡ w) × (fault .line ≡ w .number)
+
+-- A word's part is that part of the line.
+abbrev pub Lies : List ℕ → Result (Option Token) WordFault → Type 0
+Lies line (Ok None) = Unit {0}
+Lies line (Ok (Some token)) = take (length (part-of (token .word))) (drop (token .place) line) ≡ part-of (token .word)
+Lies line (Err fault) = Unit {0}

@@ -32,8 +32,7 @@ loop-token-again c =
     let found = at-place (token .place) (token .word) in
     let left = words-from (v .line .now) (v .at) in
     let step = read .words ∙ ap (λ f. told (Ok f) left) (c .in-Some .is) in
-    let moved = subst (λ f. Moves w (Ok f) v) (c .in-Some .is) (read .moves) in
-    (
+    let moved = subst (λ f. Moves w (Ok f) v) (c .in-Some .is) (read .moves) in (
       inv .0 ++ found ∷ [],
       inv .1 ∙ ap (onto (inv .0)) step ∙ sym (onto-push (inv .0) found left),
       c .in-Continue-add-caption .ensures tt ∙ ap (λ l. l ++ quotes (found ∷ [])) (inv .2) ∙ append-assoc (held (c .args .captions .now)) (quotes (inv .0)) (quotes (found ∷ [])) ∙ ap (λ l. held (c .args .captions .now) ++ l) (sym (quotes-push (inv .0) found)),
@@ -46,8 +45,7 @@ returns c =
     let read = c .in-Continue-token .ensures tt in
     let v = c .next-word .last .self in
     let step = read .words ∙ ap (λ f. told (Ok f) (words-from (v .line .now) (v .at))) (c .in-rest .is) in
-    let all : words (c .args .line .bytes .now) ≡ Some (inv .0) = cond-true _ _ _ (c .in-Continue-words .ensures tt .0) ∙ inv .1 ∙ ap (onto (inv .0)) step ∙ onto-all (inv .0) in
-    (
+    let all : words (c .args .line .bytes .now) ≡ Some (inv .0) = cond-true _ _ _ (c .in-Continue-words .ensures tt .0) ∙ inv .1 ∙ ap (onto (inv .0)) step ∙ onto-all (inv .0) in (
       λ none. let z : _≡_ {A = ℕ} 0 1 = cc in omega arith,
       inv .2 ∙ ap (λ o. held (c .args .captions .now) ++ quotes-read o) (sym all),
     )

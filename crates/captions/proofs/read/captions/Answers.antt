@@ -32,11 +32,10 @@ loop-line-again c =
     let added = c .in-Continue-add-captions .ensures tt in
     let clear : Clear text (n + 1) = below-more _ n (inv .1) (λ none. added .0 (ap words (is .bytes) ∙ none)) in
     let gathered : held (c .add-captions .last .captions) ≡ joined line-captions (take (n + 1) (lines text)) =
-      added .1
-      ∙ (λ i. inv .2 i ++ line-captions (is .bytes i))
-      ∙ joined-more line-captions [] (take n (lines text)) (getD (lines text) n [])
-      ∙ ap (joined line-captions) (sym (take-more (lines text) n [] (is .within))) in
-    (
+    added .1
+    ∙ (λ i. inv .2 i ++ line-captions (is .bytes i))
+    ∙ joined-more line-captions [] (take n (lines text)) (getD (lines text) n [])
+    ∙ ap (joined line-captions) (sym (take-more (lines text) n [] (is .within))) in (
       ap (λ r. r .now) (got .text) ∙ inv .0,
       subst (Clear text) (sym (got .gives .1)) clear,
       gathered ∙ ap (λ k. joined line-captions (take k (lines text))) (sym (got .gives .1)),
@@ -57,8 +56,7 @@ returns c =
     let inv = c .loop-line .inv in
     let text = c .args .text .now in
     let short : TooLong text → ⊥ = λ long. omega (arith, c .in-Continue-check-length .ensures tt) in
-    let done : c .loop-line .lines .given ≡ length (lines text) = c .in-rest .ensures tt .gives .0 ∙ ap (λ t. length (lines t)) (inv .0) in
-    (
+    let done : c .loop-line .lines .given ≡ length (lines text) = c .in-rest .ensures tt .gives .0 ∙ ap (λ t. length (lines t)) (inv .0) in (
       all-readable text short (subst (Clear text) done (inv .1)),
       inv .2 ∙ ap (joined line-captions) (take-all _ (lines text) (omega arith)),
     )

@@ -20,8 +20,7 @@ returns-in-Err g c =
     let i = c .loop-i .i in
     let refused = c .in-Err .ensures tt in
     let state = g .P·Panel .state in
-    let here = getD-map now texts i _ [] (c .loop-i-test .taken) in
-    (
+    let here = getD-map now texts i _ [] (c .loop-i-test .taken) in (
       omega (arith, same-length texts),
       subst (Shown (state (c .args .panel .now)) (take i (map now texts))) (sym (refused .1)) (c .loop-i .inv),
       λ room. refused .0 (subst (λ t. Room (state (c .loop-i .panel)) t) here (subst (λ q. Room q (getD (map now texts) i [])) (refused .1) room)),
@@ -38,8 +37,7 @@ loop-i-again g c =
 pub returns : need.returns
 returns g c =
     let texts = c .args .texts .now in
-    let state = g .P·Panel .state in
-    (
+    let state = g .P·Panel .state in (
       sym (same-length texts),
       subst (λ l. Shown (state (c .args .panel .now)) l (state (c .loop-i .panel))) (take-all (c .loop-i .i) (map now texts) (omega (arith, same-length texts))) (c .loop-i .inv),
     )

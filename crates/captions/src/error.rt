@@ -5,7 +5,6 @@ use reader::Fault;
 use reader::FaultFromEntry;
 use reader::FaultFromWord;
 use reader::WordFault;
-use std::alloc::AllocError;
 use std::alloc::Refused;
 
 /// Why a scene text has no proof sheet.
@@ -30,14 +29,6 @@ pub impl From<WordFault> for ReadError as ReadErrorFromWord {
 
     fn from(fault: WordFault) -> ReadError {
         ReadError::Refused(Fault::from(fault))
-    }
-}
-
-pub impl From<AllocError> for ReadError as ReadErrorFromAlloc {
-    ghost converts = { λ _ y. y ≡ no-memory };
-
-    fn from(_error: AllocError) -> ReadError {
-        ReadError::OutOfMemory
     }
 }
 

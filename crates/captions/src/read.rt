@@ -1,6 +1,5 @@
 ghost use Rattle.captions.specs.Captions.{AddsCaption, AddsCaptions, Gives};
 use crate::error::ReadError;
-use crate::error::ReadErrorFromAlloc;
 use crate::error::ReadErrorFromEntry;
 use crate::error::ReadErrorFromRefused;
 use crate::error::ReadErrorFromWord;

@@ -1,5 +1,5 @@
 -- What a panel over a buffer means once the buffer has grown by a text's line. Assumes nothing.
-use mathlib.Core.Path.{_≡_, refl, sym, ap, subst, _∙_}
+use mathlib.Core.Path.{_≡_, sym, ap, subst, _∙_}
 use mathlib.Core.List.{List, [], _∷_, _++_, append-nil}
 use Prim.Native.Nat.{ℕ, _+_, _-_, _<_, _≤_}
 use native.Mathlib.Omega.{arith}
@@ -9,8 +9,8 @@ use Rattle.std.specs.shelf.Lists.{All, joined}
 use Rattle.std.proofs.shelf.Lists.{joined-more}
 use Rattle.devices.specs.Buffers.{Grows, capacity}
 use Rattle.devices.specs.Costs.{cost}
-use Rattle.devices.specs.Hex.{hex, line, page, texts-of}
-use Rattle.devices.specs.Panels.{PanelState, Room, shown-on}
+use Rattle.devices.specs.Hex.{line, page, texts-of}
+use Rattle.devices.specs.Panels.{shown-on}
 use Rattle.devices.specs.States.{roll-state, roll-rate, frames-state, frames-rate}
 use Rattle.devices.proofs.Appending.{grows-capacity, grows-written}
 use Rattle.devices.proofs.Costing.{roll-cost, frames-cost}

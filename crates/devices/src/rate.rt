@@ -1,8 +1,9 @@
-ghost use mathlib.Core.List.{List, []};
+ghost use mathlib.Core.List.{List};
 ghost use mathlib.Core.Path.{_≡_};
 ghost use Prim.Native.Nat.{ℕ};
 ghost use lib.ListN.{length};
 ghost use Rattle.devices.specs.Costs.{cost};
+ghost use Rattle.devices.specs.Laws.{CostLaws};
 
 /// What a panel charges in units: P for each byte of a text, and Q for the text.
 #[derive(Clone, Copy, Debug, PartialEq, Eq)]
@@ -17,7 +18,7 @@ impl Rate {
     /// What a text of `len` bytes costs, whatever bytes they are. No length is too long.
     pub fn cost(self, len: usize) -> u128
         ensures value { λ r. ⌜ ((text : List ℕ) → length text ≡ len → r ≡ cost self text) ⌝ }
-        ensures empty { λ _. ⌜ cost self [] ≡ 0 ⌝ }
+        ensures laws { λ _. ⌜ CostLaws ⌝ }
     {
         if len == 0 {
             return 0;

@@ -1,12 +1,12 @@
 -- Where the part of a word lies in its line. Assumes nothing.
-use mathlib.Core.Path.{_≡_, refl, sym, ap, _∙_}
+use mathlib.Core.Path.{_≡_, sym, ap, _∙_}
 use mathlib.Core.List.{List}
-use Prim.Native.Nat.{ℕ, _-_, _<_, _≤_, min}
+use Prim.Native.Nat.{ℕ, _-_, _≤_}
 use native.Mathlib.Omega.{arith}
-use lib.ListN.{length, take, drop, length-drop, length-take}
+use lib.ListN.{length, take, drop, length-take}
 use Rattle.std.proofs.shelf.Lists.{take-all, take-take, length-take-le}
 use Rattle.std.proofs.shelf.Tests.{cond-both}
-use Rattle.reader.specs.Words.{Piece, piece, directive, label, name, number, other, is-directive, is-label, is-name, is-number, plain}
+use Rattle.reader.specs.Words.{Piece, is-directive, is-label, is-name, is-number, plain}
 
 -- a list is the front of another
 abbrev Front : List ℕ → List ℕ → Type 0

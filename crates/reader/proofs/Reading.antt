@@ -1,6 +1,6 @@
 -- The first word of what is left of a line. Assumes nothing.
 use mathlib.Core.Path.{_≡_, refl, sym, ap, _∙_}
-use mathlib.Core.Bool.{Bool, true, false, cond, not}
+use mathlib.Core.Bool.{Bool, false, cond}
 use mathlib.Core.Logic.{⊎-elim}
 use mathlib.Core.List.{List, [], _∷_}
 use Prim.Native.Nat.{ℕ, zero, suc, _+_, _-_, _<_, _≤_}
@@ -9,12 +9,11 @@ use native.Mathlib.Omega.{arith}
 use lib.Dec.{eqb}
 use lib.ListN.{length, getD, take, drop, length-drop}
 use Rattle.std.specs.shelf.Lists.{leading}
-use Rattle.std.proofs.shelf.Lists.{drop-all, drop-drop, drop-more, getD-drop, getD-past}
-use Rattle.std.proofs.shelf.Tests.{cases-bool, cond-true, cond-false, eq-eqb, ne-eqb, true≢false, not-from-false}
-use Rattle.std.specs.declared.option.Option.{Option}
+use Rattle.std.proofs.shelf.Lists.{drop-all, drop-drop, drop-more, getD-drop}
+use Rattle.std.proofs.shelf.Tests.{cases-bool, cond-true, cond-false, eq-eqb, ne-eqb, not-from-false}
 use Rattle.std.specs.declared.option.Option.the-variants.{Some, None}
 use Rattle.reader.specs.Bytes.{is}
-use Rattle.reader.specs.Words.{Piece, piece, quoted, plain, read, with-piece, words-from}
+use Rattle.reader.specs.Words.{piece, quoted, plain, read, with-piece, words-from}
 use Rattle.reader.specs.declared.bytes.Class.the-variants.{Blank, Dark, Quotable}
 
 -- a run stops at a byte that is not of its class

@@ -1,6 +1,5 @@
 -- The first line of a text, and what is left of it. Assumes nothing.
 use mathlib.Core.Path.{_≡_, refl, sym, ap, _∙_}
-use mathlib.Core.Bool.{true, false, cond, not}
 use mathlib.Core.Logic.{⊎-elim}
 use mathlib.Core.List.{List, [], _∷_}
 use Prim.Native.Nat.{ℕ, suc, _+_, _-_, _<_, _≤_}
@@ -10,8 +9,8 @@ use lib.Dec.{eqb}
 use lib.ListN.{length, getD, take, drop, length-drop}
 use Rattle.std.specs.shelf.Lists.{leading, sumBy}
 use Rattle.std.proofs.shelf.Lists.{drop-all, drop-drop, length-take-le, getD-drop}
-use Rattle.std.proofs.shelf.Sums.{sumBy-cons, sumBy-more, leading-le-length}
-use Rattle.std.proofs.shelf.Tests.{cases-bool, cond-true, cond-false}
+use Rattle.std.proofs.shelf.Sums.{sumBy-cons, sumBy-more}
+use Rattle.std.proofs.shelf.Tests.{cases-bool}
 use Rattle.reader.specs.Bytes.{is}
 use Rattle.reader.specs.Lines.{lines, line-start, onto-first}
 use Rattle.reader.specs.declared.bytes.Class.the-variants.{Inline}

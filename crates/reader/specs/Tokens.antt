@@ -8,7 +8,7 @@ use Rattle.std.specs.declared.option.Option.{Option}
 use Rattle.std.specs.declared.option.Option.the-variants.{Some, None}
 use Rattle.std.specs.declared.result.Result.{Result}
 use Rattle.std.specs.declared.result.Result.the-variants.{Ok, Err}
-use Rattle.reader.specs.Words.{Piece, piece, directive, label, name, number, quoted, other, every, with-piece, words-from}
+use Rattle.reader.specs.Words.{Piece, piece, directive, label, name, number, quoted, other, every, with-piece}
 use Rattle.reader.specs.declared.bytes.Class.the-variants.{Allowed}
 use Rattle.reader.specs.declared.fault.WordFault.{WordFault}
 use Rattle.reader.specs.declared.line.Line.{Line}

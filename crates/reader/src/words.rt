@@ -1,6 +1,5 @@
 ghost use mathlib.Core.Path.{_≡_};
-ghost use Prim.Native.Nat.{_<_, _≤_};
-ghost use lib.ListN.{length};
+ghost use Prim.Native.Nat.{_<_};
 ghost use Rattle.reader.specs.Tokens.{Lies, Moves, Opens, told};
 ghost use Rattle.reader.specs.Words.{words-from};
 use crate::bytes::Class;

@@ -1,12 +1,12 @@
-use mathlib.Core.Path.{_≡_, refl, sym, ap, subst, _∙_}
-use mathlib.Core.List.{List, [], _∷_, _++_, append-assoc}
+use mathlib.Core.Path.{_≡_, sym, ap, subst, _∙_}
+use mathlib.Core.List.{[], _∷_, _++_, append-assoc}
 use native.Mathlib.Omega.{arith}
 use Prim.Native.Nat.{ℕ}
 use Rattle.std.proofs.shelf.Results.{err-from-errBy}
 use Rattle.std.proofs.shelf.Tests.{cond-true}
 use Rattle.std.specs.declared.option.Option.the-variants.{Some, None}
-use Rattle.std.specs.declared.result.Result.the-variants.{Ok, Err}
-use Rattle.captions.specs.Captions.{AddsCaptions, held, quotes, quotes-read}
+use Rattle.std.specs.declared.result.Result.the-variants.{Ok}
+use Rattle.captions.specs.Captions.{held, quotes, quotes-read}
 use Rattle.captions.proofs.Gathering.{onto, onto-push, onto-all, onto-none, quotes-push}
 use Rattle.reader.specs.Faults.{fault-at}
 use Rattle.reader.specs.Tokens.{at-place, told, Moves}

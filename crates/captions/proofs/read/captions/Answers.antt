@@ -1,15 +1,13 @@
-use mathlib.Core.Path.{_≡_, refl, sym, ap, subst, _∙_}
+use mathlib.Core.Path.{_≡_, sym, ap, subst, _∙_}
 use mathlib.Core.List.{[], _++_}
 use native.Mathlib.Omega.{arith}
-use Prim.Native.Nat.{ℕ, _+_, _<_}
+use Prim.Native.Nat.{_+_}
 use lib.ListN.{length, getD, take}
 use borrow.Author.Count.{below-more}
-use Rattle.std.specs.declared.option.Option.the-variants.{None}
-use Rattle.std.specs.declared.result.Result.the-variants.{Err}
 use Rattle.std.specs.shelf.Lists.{joined}
 use Rattle.std.proofs.shelf.Lists.{joined-more, take-more, take-all}
 use Rattle.std.proofs.shelf.Results.{err-from-errBy}
-use Rattle.captions.specs.Captions.{Gives, held, line-captions}
+use Rattle.captions.specs.Captions.{held, line-captions}
 use Rattle.captions.proofs.Refusing.{Clear, all-readable, refused-here}
 use Rattle.reader.specs.Arises.{TooLong, too-long}
 use Rattle.reader.specs.Lines.{lines, IsLine}

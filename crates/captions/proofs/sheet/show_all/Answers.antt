@@ -1,4 +1,4 @@
-use mathlib.Core.Path.{_≡_, refl, sym, ap, subst, _∙_}
+use mathlib.Core.Path.{_≡_, sym, subst}
 use mathlib.Core.List.{List, [], map}
 use native.Mathlib.Omega.{arith}
 use Prim.Native.Nat.{ℕ, _<_}
@@ -30,8 +30,8 @@ pub loop-i-again : need.loop-i-again
 loop-i-again g c =
     let texts = c .args .texts .now in
     let i = c .loop-i .i in
-    let here = getD-map now texts i _ [] (c .loop-i-test .taken) in
     let within : i < length (map now texts) = omega (arith, same-length texts) in
+    let here = getD-map now texts i _ [] (c .loop-i-test .taken) in
     shown-more _ _ _ (map now texts) i _ here within (c .loop-i .inv) (c .in-rest .ensures tt)
 
 pub returns : need.returns

@@ -1,15 +1,15 @@
-use mathlib.Core.Path.{_≡_, sym, ap, _∙_}
-use mathlib.Core.List.{List, []}
+use mathlib.Core.Path.{sym, _∙_}
+use mathlib.Core.List.{[]}
 use native.Mathlib.Omega.{arith}
-use Prim.Native.Nat.{ℕ, _+_, _*_, _<_}
+use Prim.Native.Nat.{_<_}
 use lib.ListN.{length}
-use Rattle.devices.proofs.Costing.{cost-empty, cost-some, cost-by-length}
+use Rattle.devices.proofs.Costing.{cost-empty, cost-some, cost-by-length, cost-laws}
 use Rattle.devices.proofs.rate.Rate.cost.Needs as need
 
 pub returns-then-len-eq0 : need.returns-then-len-eq0
 returns-then-len-eq0 c = record {
   value = λ t e. sym (cost-by-length _ t [] (omega arith) ∙ cost-empty _);
-  empty = cost-empty _;
+  laws = cost-laws;
 }
 
 pub returns : need.returns
@@ -18,5 +18,5 @@ returns c = record {
       let some : 0 < length t = omega arith in
       let known = cost-some (c .args .self) t some in
       cc;
-  empty = cost-empty _;
+  laws = cost-laws;
 }

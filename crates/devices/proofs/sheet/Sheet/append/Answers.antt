@@ -1,10 +1,8 @@
 use mathlib.Core.Path.{_≡_, sym, subst}
-use mathlib.Core.List.{[], _∷_}
 use native.Mathlib.Omega.{arith}
 use lib.ListN.{length, take}
-use Prim.Native.Nat.{_+_, _≤_}
 use Rattle.std.proofs.shelf.Lists.{take-all, take-more, length-take-le}
-use Rattle.devices.specs.Buffers.{Grows, capacity}
+use Rattle.devices.specs.Buffers.{Grows}
 use Rattle.devices.proofs.Appending.{grows-none, grows-more, grows-room}
 use Rattle.devices.proofs.sheet.Sheet.append.Needs as need
 

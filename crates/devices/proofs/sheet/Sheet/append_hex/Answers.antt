@@ -2,9 +2,9 @@ use mathlib.Core.Path.{_≡_, sym, ap, subst, _∙_}
 use mathlib.Core.List.{[], _∷_, _++_}
 use native.Mathlib.Omega.{arith}
 use lib.ListN.{length, take, getD}
-use Prim.Native.Nat.{_+_, _*_, _≤_}
+use Prim.Native.Nat.{_+_}
 use Rattle.std.proofs.shelf.Lists.{take-all, take-more, length-take-le}
-use Rattle.devices.specs.Buffers.{Grows, capacity}
+use Rattle.devices.specs.Buffers.{Grows}
 use Rattle.devices.specs.Hex.{hex}
 use Rattle.devices.proofs.Appending.{grows-none, grows-more, grows-room}
 use Rattle.devices.proofs.Decoding.{length-hex, hex-push}

@@ -1,11 +1,11 @@
 use mathlib.Core.Path.{_≡_, sym, ap, subst, _∙_}
-use mathlib.Core.List.{List, [], _∷_, _++_}
+use mathlib.Core.List.{List, [], _∷_}
 use native.Mathlib.Omega.{arith}
 use lib.ListN.{length, length-append}
-use Prim.Native.Nat.{ℕ, _+_, _*_, _<_, _≤_}
+use Prim.Native.Nat.{ℕ, _+_, _<_}
 use Rattle.std.proofs.shelf.Lists.{nil-from-length}
 use Rattle.std.proofs.shelf.Tests.{eqb-true, eqb-false}
-use Rattle.devices.specs.Buffers.{Grows, capacity}
+use Rattle.devices.specs.Buffers.{Grows}
 use Rattle.devices.specs.Hex.{hex, line}
 use Rattle.devices.proofs.Appending.{grows-none, grows-more, grows-room}
 use Rattle.devices.proofs.Decoding.{length-hex, line-some}

@@ -3,7 +3,6 @@ use native.Mathlib.Omega.{arith}
 use Prim.Native.Nat.{_+_, _-_}
 use lib.ListN.{length, getD, take, drop, length-drop}
 use Rattle.std.proofs.shelf.Lists.{getD-past}
-use Rattle.reader.specs.Tokens.{at-place}
 use Rattle.reader.specs.Words.{with-piece, words-from}
 use Rattle.reader.proofs.Lying.{front-take, plain-lies}
 use Rattle.reader.proofs.Reading.{nothing-left, comment-left, quote-open, quote-closed, some-word, plain-word}

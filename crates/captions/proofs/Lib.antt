@@ -1,3 +1,3 @@
-pub mod Gathering
-pub mod Refusing
+pub mod Joining
+pub mod Quoting
 pub mod Showing

@@ -1,3 +1,2 @@
 pub mod Captions
-pub mod Errors
 pub mod Sheets

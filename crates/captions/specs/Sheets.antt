@@ -1,20 +1,21 @@
 -- What a proof sheet shows. Assumes nothing.
 use mathlib.Core.Path.{_≡_}
 use mathlib.Core.List.{List, [], _++_}
-use Prim.Native.Nat.{ℕ, _+_, _<_}
+use Prim.Native.Nat.{ℕ, _+_, _<_, _≤_}
 use lib.ListN.{length, getD, take}
 use Rattle.std.specs.shelf.Lists.{joined, sumBy}
+use Rattle.std.specs.declared.option.Option.the-variants.{Some, None}
 use Rattle.std.specs.declared.result.Result.{Result}
 use Rattle.std.specs.declared.result.Result.the-variants.{Ok, Err}
-use Rattle.captions.specs.Captions.{captions-of}
-use Rattle.captions.specs.declared.error.ReadError.{ReadError}
-use Rattle.captions.specs.declared.error.ReadError.the-variants.{Refused, OutOfMemory}
+use Rattle.captions.specs.Captions.{captions-of, quotes}
 use Rattle.captions.specs.declared.sheet.Sheet.{Sheet}
 use Rattle.captions.specs.declared.sheet.Sheet.the-variants.{Complete, NoRoom}
 use Rattle.devices.specs.Costs.{cost}
 use Rattle.devices.specs.Panels.{PanelState, Room}
-use Rattle.reader.specs.Arises.{Readable}
-use Rattle.reader.specs.Arises as arises
+use Rattle.reader.specs.Arises.{Readable, Refused}
+use Rattle.reader.specs.Words.{Piece, words}
+use Rattle.reader.specs.declared.fault.Fault.{Fault}
+use Rattle.reader.specs.declared.fault.WordFault.{WordFault}
 
 -- `Shown p texts q`: the panel p has become q by showing the texts. They follow what was shown, in order,
 -- and the units that were left are those that are left now and the texts' costs.
@@ -28,8 +29,17 @@ abbrev pub ShowsAll : PanelState → List (List ℕ) → Sheet → PanelState �
 ShowsAll p texts (Complete n) q = (n ≡ length texts) × Shown p texts q
 ShowsAll p texts (NoRoom n) q = (n < length texts) × Shown p (take n texts) q × (Room q (getD texts n []) → ⊥)
 
--- The captions of a readable text are shown. A text that is refused shows nothing, and so does want of memory.
-abbrev pub ProofSheet : List ℕ → PanelState → Result Sheet ReadError → PanelState → Type 0
+-- The captions of a readable text are shown; a text that is refused shows nothing.
+abbrev pub ProofSheet : List ℕ → PanelState → Result Sheet Fault → PanelState → Type 0
 ProofSheet text p (Ok sheet) q = Readable text × ShowsAll p (captions-of text) sheet q
-ProofSheet text p (Err (Refused fault)) q = arises.Refused text fault × (q ≡ p)
-ProofSheet text p (Err OutOfMemory) q = q ≡ p
+ProofSheet text p (Err fault) q = Refused text fault × (q ≡ p)
+
+-- How many captions a sheet counts.
+abbrev pub count : Sheet → ℕ
+count (Complete n) = n
+count (NoRoom n) = n
+
+-- The captions of a line that is readable are shown, and no more are counted than it has bytes.
+abbrev pub ShowsLine : List ℕ → PanelState → Result Sheet WordFault → PanelState → Type 0
+ShowsLine line p (Ok sheet) q = (count sheet ≤ length line) × ((ws : List Piece) → words line ≡ Some ws → ShowsAll p (quotes ws) sheet q)
+ShowsLine line p (Err fault) q = words line ≡ None

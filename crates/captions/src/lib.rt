@@ -1,10 +1,6 @@
-//! The proof sheet of a scene: its quoted texts, each shown on a panel.
+//! The proof sheet of a scene: its captions, each shown on a panel.
 
-mod error;
-mod read;
 mod sheet;
 
-pub use error::ReadError;
-pub use read::captions;
 pub use sheet::Sheet;
 pub use sheet::proof_sheet;

@@ -1,10 +1,8 @@
 //! Reads the scene in `scene.txt` and prints the proof sheet of its captions, or why the scene is refused.
-use captions::ReadError;
 use captions::Sheet;
 use captions::proof_sheet;
 use devices::Frames;
 use devices::FramesPanel;
-use std::alloc::AllocError;
 use std::fs::File;
 use std::io;
 use std::io::Read;
@@ -39,7 +37,7 @@ fn read_scene(rt: &LibcRuntime) -> io::Result<Vec<u8>> {
 fn print_sheet(rt: &LibcRuntime, text: &[u8]) -> io::Result<()> {
     let mut buffer = vec![in rt.alloc(); 0u8; UNITS]?;
     let mut frames = Frames::new(&mut buffer);
-    match proof_sheet(rt.alloc(), text, &mut frames) {
+    match proof_sheet(text, &mut frames) {
         Ok(sheet) => {
             rt.stdout().write_all(frames.written())?;
             match sheet {
@@ -47,9 +45,6 @@ fn print_sheet(rt: &LibcRuntime, text: &[u8]) -> io::Result<()> {
                 Sheet::NoRoom(shown) => println!(rt, "room {shown}"),
             }
         }
-        Err(ReadError::Refused(fault)) => {
-            println!(rt, "refused {} {}", fault.refusal.number(), fault.line)
-        }
-        Err(ReadError::OutOfMemory) => Err(AllocError.into()),
+        Err(fault) => println!(rt, "refused {} {}", fault.refusal.number(), fault.line),
     }
 }

@@ -1,3 +1,5 @@
+pub mod Gathering
 pub mod Lying
 pub mod Reading
+pub mod Refusing
 pub mod Splitting

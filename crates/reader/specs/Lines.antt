@@ -2,7 +2,7 @@
 use mathlib.Core.Path.{_≡_}
 use mathlib.Core.Bool.{cond}
 use mathlib.Core.List.{List, [], _∷_}
-use Prim.Native.Nat.{ℕ, _+_, _<_}
+use Prim.Native.Nat.{ℕ, _+_, _<_, _≤_}
 use lib.Dec.{eqb}
 use lib.ListN.{length, getD, take, drop}
 use Rattle.std.specs.shelf.Lists.{sumBy}
@@ -30,7 +30,8 @@ pub record IsLine (text : List ℕ) (n : ℕ) (line : Line) : Type 0 where
   pub number : line .number ≡ n + 1
   pub place : line .place ≡ line-start text n
   pub bytes : line .bytes .now ≡ getD (lines text) n []
-  -- its bytes are that part of the text
+  -- it ends within the text, and its bytes are that part of the text
+  pub inside : line .place + length (line .bytes .now) ≤ length text
   pub lies : take (length (line .bytes .now)) (drop (line .place) text) ≡ line .bytes .now
 
 -- `GivesLine text n r m`: after n lines of the text were given, r is the next one, and m lines were given then;

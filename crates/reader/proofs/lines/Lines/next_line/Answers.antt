@@ -46,11 +46,13 @@ returns c =
     let ends = c .run-end-end .ensures .value in
     let more = c .if-start-text .left in
     let inside = c .run-end-end .ensures .within (omega arith) in
+    let long = length-take-le (end - s .at) (drop (s .at) (s .text .now)) (omega (arith, length-drop (s .at) (s .text .now))) in
     let line : IsLine (s .text .now) (s .given) _ = record {
       within = next-within (s .text .now) (s .at) (s .given) (s .placed) (s .counted) (s .left) more end ends;
       number = refl;
       place = s .placed;
       bytes = next-bytes (s .text .now) (s .at) (s .given) (s .placed) (s .counted) (s .left) more end ends;
-      lies = ap (λ k. take k (drop (s .at) (s .text .now))) (length-take-le (end - s .at) (drop (s .at) (s .text .now)) (omega (arith, length-drop (s .at) (s .text .now))));
+      inside = omega (arith, long);
+      lies = ap (λ k. take k (drop (s .at) (s .text .now))) long;
     } in
     record { gives = (line, refl); text = refl }

@@ -1,6 +1,6 @@
 -- Encoding and decoding are inverse. Assumes nothing.
 use mathlib.Core.Path.{_≡_, refl, sym, ap, _∙_}
-use mathlib.Core.Bool.{false}
+use mathlib.Core.Bool.{Bool, true, false}
 use mathlib.Core.List.{List, [], _∷_, _++_, append-assoc, append-nil, map}
 use Prim.Native.Nat.{ℕ, _+_, _-_, _*_, _/_, _%_, _<_}
 use native.Mathlib.Omega.{arith}
@@ -9,7 +9,7 @@ use lib.ListN.{length}
 use Rattle.std.specs.shelf.Lists.{All}
 use Rattle.std.proofs.shelf.Ways.{tells}
 use Rattle.std.proofs.shelf.Tests.{cond-false}
-use Rattle.devices.specs.Hex.{digit, number, hex, line, page, onto-first, texts-of, Inverse}
+use Rattle.devices.specs.Hex.{digit, number, hex, line, page, onto-first, texts-of, is-digit, Digits, done, closes, pair, Inverse}
 
 -- what comes back of a byte, and of a text
 abbrev back : ℕ → ℕ
@@ -57,8 +57,52 @@ texts-of-page : (ts : List (List ℕ)) → All (All (λ b. b < 256)) ts → text
 texts-of-page ts h =
     ap texts-of (sym (append-nil (page ts))) ∙ texts-page ts [] ∙ append-nil (map (map back) ts) ∙ back-texts ts h
 
+-- a pair of digits and the byte that it stands for
+number-below : (d : ℕ) → is-digit d ≡ true → number d < 16
+number-below d h = grind (arith, tells)
+
+digit-number : (d : ℕ) → is-digit d ≡ true → digit (number d) ≡ d
+digit-number d h = grind (arith, tells)
+
+digit-open : (d : ℕ) → is-digit d ≡ true → eqb d 10 ≡ false
+digit-open d h = grind (arith, tells)
+
+module _ (x y : ℕ) (hx : is-digit x ≡ true) (hy : is-digit y ≡ true) where
+  high : digit ((16 * number x + number y) / 16) ≡ x
+  high =
+      let small = number-below y hy in
+      let quotient : (16 * number x + number y) / 16 ≡ number x = omega arith in
+      ap digit quotient ∙ digit-number x hx
+
+  low : digit ((16 * number x + number y) % 16) ≡ y
+  low =
+      let small = number-below y hy in
+      let remainder : (16 * number x + number y) % 16 ≡ number y = omega arith in
+      ap digit remainder ∙ digit-number y hy
+
+  pair-open : (w : List ℕ) → texts-of (x ∷ y ∷ w) ≡ onto-first (16 * number x + number y) (texts-of w)
+  pair-open w = cond-false _ _ _ (digit-open x hx)
+
+-- within a line a text begins
+first-text : {w : List ℕ} → Digits false w → (t : List ℕ) × (ts : List (List ℕ)) × (texts-of w ≡ t ∷ ts)
+first-text (closes {w = w} d) = ([], texts-of w, texts-end w)
+first-text (pair {x = x} {y = y} {w = w} hx hy d) =
+    let rest = first-text d in
+    ((16 * number x + number y) ∷ rest .0, rest .1, pair-open x y hx hy w ∙ ap (onto-first (16 * number x + number y)) (rest .2))
+
+page-back : {b : Bool} {w : List ℕ} → Digits b w → page (texts-of w) ≡ w
+page-back done = refl
+page-back (closes {w = w} d) = ap page (texts-end w) ∙ ap (λ l. 10 ∷ l) (page-back d)
+page-back (pair {x = x} {y = y} {w = w} hx hy d) =
+    let rest = first-text d in
+    ap page (pair-open x y hx hy w)
+    ∙ ap (λ l. page (onto-first (16 * number x + number y) l)) (rest .2)
+    ∙ (λ i. high x y hx hy i ∷ low x y hx hy i ∷ page (rest .0 ∷ rest .1))
+    ∙ ap (λ l. x ∷ y ∷ page l) (sym (rest .2))
+    ∙ ap (λ l. x ∷ y ∷ l) (page-back d)
+
 pub inverse : Inverse
-inverse = record { texts = texts-of-page; pages = λ ts h. ap page (texts-of-page ts h) }
+inverse = record { texts = texts-of-page; pages = λ w p. page-back p }
 
 -- a line more on a page
 module _ (w : List ℕ) (whole : page (texts-of w) ≡ w) (t : List ℕ) (bytes : All (λ b. b < 256) t) where

@@ -1,9 +1,10 @@
 -- Texts as lines of hexadecimal digits, and back. Assumes nothing.
-use mathlib.Core.Bool.{cond}
+use mathlib.Core.Bool.{Bool, true, false, cond, _||_}
 use mathlib.Core.List.{List, [], _∷_, _++_}
 use Prim.Native.Nat.{ℕ, _+_, _-_, _*_, _/_, _%_, _<_}
 use mathlib.Core.Path.{_≡_}
 use lib.Dec.{eqb, ltb}
+use Rattle.std.specs.Text.{within}
 use Rattle.std.specs.shelf.Lists.{All}
 
 -- The upper-case hexadecimal digit of a number below 16, and the number of such a digit.
@@ -38,8 +39,20 @@ texts-of [] = []
 texts-of (x ∷ []) = cond (eqb x 10) ([] ∷ []) []
 texts-of (x ∷ y ∷ rest) = cond (eqb x 10) ([] ∷ texts-of (y ∷ rest)) (onto-first (16 * number x + number y) (texts-of rest))
 
--- Decoding is the inverse of encoding: the texts of a page come back from it,
--- and so does a page from its texts.
+abbrev pub is-digit : ℕ → Bool
+is-digit d = within 48 57 d || within 65 70 d
+
+-- `IsPage w`: w is lines of upper-case hexadecimal digits, two and two, each line closed by byte 10.
+-- `Digits b w`: w is that from here on, where b says whether a line begins here.
+pub data Digits : Bool → List ℕ → Type 0 where
+  done : Digits true []
+  closes : {b : Bool} {w : List ℕ} → Digits true w → Digits b (10 ∷ w)
+  pair : {b : Bool} {x y : ℕ} {w : List ℕ} → is-digit x ≡ true → is-digit y ≡ true → Digits false w → Digits b (x ∷ y ∷ w)
+
+abbrev pub IsPage : List ℕ → Type 0
+IsPage w = Digits true w
+
+-- Encoding and decoding are inverse: texts of bytes come back from their page, and a page from its texts.
 pub record Inverse : Type 0 where
   pub texts : (texts : List (List ℕ)) → All (All (λ b. b < 256)) texts → texts-of (page texts) ≡ texts
-  pub pages : (texts : List (List ℕ)) → All (All (λ b. b < 256)) texts → page (texts-of (page texts)) ≡ page texts
+  pub pages : (w : List ℕ) → IsPage w → page (texts-of w) ≡ w

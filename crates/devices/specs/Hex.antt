@@ -27,7 +27,7 @@ line (b ∷ bs) = hex (b ∷ bs) ++ 10 ∷ []
 -- Encoding: texts, a line for each.
 abbrev pub page : List (List ℕ) → List ℕ
 page [] = []
-page (text ∷ texts) = hex text ++ 10 ∷ [] ++ page texts
+page (text ∷ texts) = (hex text ++ 10 ∷ []) ++ page texts
 
 -- Decoding: a byte 10 ends a text, and any other two bytes are the digits of the byte that comes first in its text.
 abbrev pub onto-first : ℕ → List (List ℕ) → List (List ℕ)

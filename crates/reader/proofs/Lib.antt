@@ -2,4 +2,5 @@ pub mod Gathering
 pub mod Lying
 pub mod Reading
 pub mod Refusing
+pub mod Spelling
 pub mod Splitting

@@ -28,7 +28,7 @@ leading-stops p (b ∷ s) h =
     (cases-bool (p b))
 
 -- what belongs to a word before is passed over
-skipped : (p k : ℕ) (s : List ℕ) → read p k s ≡ read (p + k) 0 (drop k s)
+pub skipped : (p k : ℕ) (s : List ℕ) → read p k s ≡ read (p + k) 0 (drop k s)
 skipped p zero [] = refl
 skipped p (suc k) [] = refl
 skipped p zero (b ∷ s) = ap (λ q. read q 0 (b ∷ s)) (sym (add-zero p))

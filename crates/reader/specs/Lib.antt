@@ -1,6 +1,7 @@
 pub mod Arises
 pub mod Bytes
 pub mod Faults
+pub mod Grammar
 pub mod Lines
 pub mod Refusals
 pub mod Tokens

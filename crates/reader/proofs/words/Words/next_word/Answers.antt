@@ -6,6 +6,7 @@ use Rattle.std.proofs.shelf.Lists.{getD-past}
 use Rattle.reader.specs.Words.{with-piece, words-from}
 use Rattle.reader.proofs.Lying.{front-take, plain-lies}
 use Rattle.reader.proofs.Reading.{nothing-left, comment-left, quote-open, quote-closed, some-word, plain-word}
+use Rattle.reader.proofs.Spelling.{grammatical}
 use Rattle.reader.proofs.words.Words.next_word.Needs as need
 use Rattle.reader.proofs.words.Words.next_word.Needs.{then-start-line·by·then-start-line, then-start-line·by·else-start-line·then-line-start-eq59, then-end-line·by·then-end-line, then-end-line·by·else-end-line·then-line-end-ne34}
 
@@ -19,6 +20,7 @@ returns-then-start-line c =
         | then-start-line·by·then-start-line w ↦ nothing-left (s .line .now) (s .at) start starts (w .if-start-line .taken)
         | then-start-line·by·else-start-line·then-line-start-eq59 w ↦ comment-left (s .line .now) (s .at) start starts (w .if-start-line .left) (w .if-line-start-eq59 .taken)
       ];
+      grammar = grammatical;
       lies = tt;
       moves = refl;
     }
@@ -36,6 +38,7 @@ returns-then-end-line c =
     ] in
     record {
       words = quote-open (s .line .now) (s .at) start starts (c .if-start-line .left) (c .if-line-start-eq34 .taken) end (c .run-end-end .ensures .value) open-at;
+      grammar = grammatical;
       lies = tt;
       moves = (refl, refl);
     }
@@ -49,6 +52,7 @@ returns-then-line-start-eq34 c =
     let ends = c .run-end-end .ensures .value in
     record {
       words = quote-closed (s .line .now) (s .at) start starts (c .if-start-line .left) (c .if-line-start-eq34 .taken) end ends (c .if-line-end-ne34 .left);
+      grammar = grammatical;
       lies = front-take (end - (start + 1)) (drop (start + 1) (s .line .now)) (omega (arith, c .if-end-line .left, length-drop (start + 1) (s .line .now)));
       moves = (omega arith, (omega (arith, c .if-end-line .left), (refl, refl)));
     }
@@ -64,6 +68,7 @@ returns c =
       words =
           plain-word (s .line .now) (s .at) start starts (c .if-start-line .left) (c .if-line-start-eq59 .left) (c .if-line-start-eq34 .left) end ends
           ∙ ap (λ w. with-piece w (words-from (s .line .now) end)) (sym (c .plain-word .ensures start));
+      grammar = grammatical;
       lies = subst (λ w. take (length (w .part)) (drop start (s .line .now)) ≡ w .part) (sym (c .plain-word .ensures 0)) (plain-lies (s .line .now) start end 0);
       moves = (omega (arith, some-word (s .line .now) (s .at) start starts (c .if-start-line .left) (c .if-line-start-eq59 .left) (c .if-line-start-eq34 .left) end ends), (c .run-end-end-2 .ensures .within (omega arith), (refl, refl)));
     }

@@ -1,0 +1,13 @@
+use reader::Fault;
+use std::io;
+
+/// Prints a refusal's number, its layer's number and its line.
+pub(crate) fn print_fault(rt: &LibcRuntime, fault: Fault) -> io::Result<()> {
+    println!(
+        rt,
+        "refused {} {} {}",
+        fault.refusal.number(),
+        fault.layer as u8,
+        fault.line
+    )
+}

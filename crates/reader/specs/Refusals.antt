@@ -36,3 +36,13 @@ layer-of EndMissing = Link
 layer-of MainMissing = Link
 layer-of DoesNotPass = Check
 layer-of NotRunning = Show
+
+-- In the order in which a scene meets them.
+abbrev pub layer-number : Layer → ℕ
+layer-number Entry = 1
+layer-number Word = 2
+layer-number Line = 3
+layer-number Table = 4
+layer-number Link = 5
+layer-number Check = 6
+layer-number Show = 7

@@ -1,5 +1,5 @@
 ghost use mathlib.Core.Path.{_≡_};
-ghost use Rattle.reader.specs.Refusals.{layer-of, number-of};
+ghost use Rattle.reader.specs.Refusals.{layer-number, layer-of, number-of};
 
 /// Why a text, a scene or a call is refused. The numbers are those that the program prints.
 #[derive(Clone, Copy, Debug)]
@@ -71,5 +71,14 @@ impl Refusal {
             Refusal::DoesNotPass => Layer::Check,
             Refusal::NotRunning => Layer::Show,
         }
+    }
+}
+
+impl Layer {
+    /// The layer's number.
+    pub fn number(self) -> u8
+        ensures { λ r. ⌜ r ≡ layer-number self ⌝ }
+    {
+        self as u8
     }
 }

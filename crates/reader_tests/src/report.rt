@@ -7,7 +7,7 @@ pub(crate) fn print_fault(rt: &LibcRuntime, fault: Fault) -> io::Result<()> {
         rt,
         "refused {} {} {}",
         fault.refusal.number(),
-        fault.layer as u8,
+        fault.layer.number(),
         fault.line
     )
 }

@@ -1,5 +1,5 @@
+pub mod Fronts
 pub mod Gathering
-pub mod Lying
 pub mod Reading
 pub mod Refusing
 pub mod Spelling

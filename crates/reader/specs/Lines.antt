@@ -32,7 +32,7 @@ pub record IsLine (text : List ℕ) (n : ℕ) (line : Line) : Type 0 where
   pub bytes : line .bytes .now ≡ getD (lines text) n []
   -- it ends within the text, and its bytes are that part of the text
   pub inside : line .place + length (line .bytes .now) ≤ length text
-  pub lies : take (length (line .bytes .now)) (drop (line .place) text) ≡ line .bytes .now
+  pub part : take (length (line .bytes .now)) (drop (line .place) text) ≡ line .bytes .now
 
 -- `GivesLine text n r m`: after n lines of the text were given, r is the next one, and m lines were given then;
 -- or r is none, and all lines were given.

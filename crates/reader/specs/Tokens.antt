@@ -31,10 +31,10 @@ abbrev pub part-of : Word → List ℕ
 part-of w = at-place 0 w .part
 
 -- What is left of a line, by what the reader answered and what is left then.
-abbrev pub told : Result (Option Token) WordFault → Option (List Piece) → Option (List Piece)
-told (Ok None) rest = Some []
-told (Ok (Some token)) rest = with-piece (at-place (token .place) (token .word)) rest
-told (Err fault) rest = None
+abbrev pub answered : Result (Option Token) WordFault → Option (List Piece) → Option (List Piece)
+answered (Ok None) rest = Some []
+answered (Ok (Some token)) rest = with-piece (at-place (token .place) (token .word)) rest
+answered (Err fault) rest = None
 
 -- The words of a line are read from its front; or the line has a byte that no line may have.
 abbrev pub Opens : Line → Result Words WordFault → Type 0
@@ -48,7 +48,7 @@ Moves w (Ok (Some token)) v = (w .at < v .at) × ((v .at ≤ length (w .line .no
 Moves w (Err fault) v = (v ≡ w) × (fault .line ≡ w .number)
 
 -- A word's part is that part of the line.
-abbrev pub Lies : List ℕ → Result (Option Token) WordFault → Type 0
-Lies line (Ok None) = Unit {0}
-Lies line (Ok (Some token)) = take (length (part-of (token .word))) (drop (token .place) line) ≡ part-of (token .word)
-Lies line (Err fault) = Unit {0}
+abbrev pub IsPart : List ℕ → Result (Option Token) WordFault → Type 0
+IsPart line (Ok None) = Unit {0}
+IsPart line (Ok (Some token)) = take (length (part-of (token .word))) (drop (token .place) line) ≡ part-of (token .word)
+IsPart line (Err fault) = Unit {0}

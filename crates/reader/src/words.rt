@@ -1,7 +1,6 @@
 ghost use mathlib.Core.Path.{_≡_};
-ghost use Prim.Native.Nat.{_<_};
 ghost use Rattle.reader.specs.Grammar.{Grammatical};
-ghost use Rattle.reader.specs.Tokens.{Lies, Moves, Opens, told};
+ghost use Rattle.reader.specs.Tokens.{IsPart, Moves, Opens, answered};
 ghost use Rattle.reader.specs.Words.{words-from};
 use crate::bytes::Class;
 use crate::bytes::run_end;
@@ -45,9 +44,9 @@ impl<'a> Words<'a> {
     /// The next word; none where only blanks and a comment are left.
     /// Refuses a quote that holds a tab or does not close, and alters nothing then.
     pub fn next_word(&mut self) -> Result<Option<Token<'a>>, WordFault>
-        ensures words { λ r. ⌜ words-from (now (self .entry) .line .now) (now (self .entry) .at) ≡ told r (words-from (now (self .exit) .line .now) (now (self .exit) .at)) ⌝ }
+        ensures words { λ r. ⌜ words-from (now (self .entry) .line .now) (now (self .entry) .at) ≡ answered r (words-from (now (self .exit) .line .now) (now (self .exit) .at)) ⌝ }
         ensures grammar { λ _. ⌜ Grammatical ⌝ }
-        ensures lies { λ r. ⌜ Lies (now (self .entry) .line .now) r ⌝ }
+        ensures part { λ r. ⌜ IsPart (now (self .entry) .line .now) r ⌝ }
         ensures moves { λ r. ⌜ Moves (now (self .entry)) r (now (self .exit)) ⌝ }
     {
         let line = self.line;

@@ -13,7 +13,7 @@ use Rattle.captions.specs.declared.sheet.Sheet.the-variants.{NoRoom}
 use Rattle.captions.proofs.Quoting.{quotes-append, quotes-one}
 use Rattle.captions.proofs.Showing.{shown-then, no-room-then}
 use Rattle.reader.proofs.Gathering.{onto, onto-push, onto-parts, onto-some, onto-none}
-use Rattle.reader.specs.Tokens.{at-place, told, Moves}
+use Rattle.reader.specs.Tokens.{at-place, answered, Moves}
 use Rattle.reader.specs.Words.{words, words-from}
 use Rattle.captions.proofs.sheet.show_line.Needs as need
 
@@ -32,7 +32,7 @@ loop-token-again g c =
     let token = c .in-Some .token in
     let found = at-place (token .place) (token .word) in
     let rest = words-from (v .line .now) (v .at) in
-    let step = left .words ∙ ap (λ f. told (Ok f) rest) (c .in-Some .is) in
+    let step = left .words ∙ ap (λ f. answered (Ok f) rest) (c .in-Some .is) in
     let moved = subst (λ f. Moves w (Ok f) v) (c .in-Some .is) (left .moves) in
     let shows = c .in-Complete .ensures tt in
     let both = quotes-append (inv .0) (found ∷ []) in
@@ -56,7 +56,7 @@ returns-in-NoRoom g c =
     let token = c .in-Some .token in
     let found = at-place (token .place) (token .word) in
     let rest = words-from (v .line .now) (v .at) in
-    let step = left .words ∙ ap (λ f. told (Ok f) rest) (c .in-Some .is) in
+    let step = left .words ∙ ap (λ f. answered (Ok f) rest) (c .in-Some .is) in
     let moved = subst (λ f. Moves w (Ok f) v) (c .in-Some .is) (left .moves) in
     let shows = c .in-NoRoom .ensures tt in
     let state = g .P·Panel .state in (
@@ -75,7 +75,7 @@ returns g c =
     let inv = c .loop-token .inv in
     let left = c .in-Continue-token .ensures tt in
     let v = c .next-word .last .self in
-    let step = left .words ∙ ap (λ f. told (Ok f) (words-from (v .line .now) (v .at))) (c .in-rest .is) in
+    let step = left .words ∙ ap (λ f. answered (Ok f) (words-from (v .line .now) (v .at))) (c .in-rest .is) in
     let state = g .P·Panel .state in (
       omega (arith, inv .4, inv .5),
       λ ws all.

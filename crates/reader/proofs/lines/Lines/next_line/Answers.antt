@@ -53,6 +53,6 @@ returns c =
       place = s .placed;
       bytes = next-bytes (s .text .now) (s .at) (s .given) (s .placed) (s .counted) (s .left) more end ends;
       inside = omega (arith, long);
-      lies = ap (λ k. take k (drop (s .at) (s .text .now))) long;
+      part = ap (λ k. take k (drop (s .at) (s .text .now))) long;
     } in
     record { gives = (line, refl); text = refl }

@@ -4,7 +4,7 @@ use Prim.Native.Nat.{_+_, _-_}
 use lib.ListN.{length, getD, take, drop, length-drop}
 use Rattle.std.proofs.shelf.Lists.{getD-past}
 use Rattle.reader.specs.Words.{with-piece, words-from}
-use Rattle.reader.proofs.Lying.{front-take, plain-lies}
+use Rattle.reader.proofs.Fronts.{front-take, plain-part}
 use Rattle.reader.proofs.Reading.{nothing-left, comment-left, quote-open, quote-closed, some-word, plain-word}
 use Rattle.reader.proofs.Spelling.{grammatical}
 use Rattle.reader.proofs.words.Words.next_word.Needs as need
@@ -21,7 +21,7 @@ returns-then-start-line c =
         | then-start-line·by·else-start-line·then-line-start-eq59 w ↦ comment-left (s .line .now) (s .at) start starts (w .if-start-line .left) (w .if-line-start-eq59 .taken)
       ];
       grammar = grammatical;
-      lies = tt;
+      part = tt;
       moves = refl;
     }
 
@@ -39,7 +39,7 @@ returns-then-end-line c =
     record {
       words = quote-open (s .line .now) (s .at) start starts (c .if-start-line .left) (c .if-line-start-eq34 .taken) end (c .run-end-end .ensures .value) open-at;
       grammar = grammatical;
-      lies = tt;
+      part = tt;
       moves = (refl, refl);
     }
 
@@ -53,7 +53,7 @@ returns-then-line-start-eq34 c =
     record {
       words = quote-closed (s .line .now) (s .at) start starts (c .if-start-line .left) (c .if-line-start-eq34 .taken) end ends (c .if-line-end-ne34 .left);
       grammar = grammatical;
-      lies = front-take (end - (start + 1)) (drop (start + 1) (s .line .now)) (omega (arith, c .if-end-line .left, length-drop (start + 1) (s .line .now)));
+      part = front-take (end - (start + 1)) (drop (start + 1) (s .line .now)) (omega (arith, c .if-end-line .left, length-drop (start + 1) (s .line .now)));
       moves = (omega arith, (omega (arith, c .if-end-line .left), (refl, refl)));
     }
 
@@ -69,6 +69,6 @@ returns c =
           plain-word (s .line .now) (s .at) start starts (c .if-start-line .left) (c .if-line-start-eq59 .left) (c .if-line-start-eq34 .left) end ends
           ∙ ap (λ w. with-piece w (words-from (s .line .now) end)) (sym (c .plain-word .ensures start));
       grammar = grammatical;
-      lies = subst (λ w. take (length (w .part)) (drop start (s .line .now)) ≡ w .part) (sym (c .plain-word .ensures 0)) (plain-lies (s .line .now) start end 0);
+      part = subst (λ w. take (length (w .part)) (drop start (s .line .now)) ≡ w .part) (sym (c .plain-word .ensures 0)) (plain-part (s .line .now) start end 0);
       moves = (omega (arith, some-word (s .line .now) (s .at) start starts (c .if-start-line .left) (c .if-line-start-eq59 .left) (c .if-line-start-eq34 .left) end ends), (c .run-end-end-2 .ensures .within (omega arith), (refl, refl)));
     }

@@ -27,8 +27,8 @@ plain-front p w =
     (λ _. cond-both (is-number w) _ _ P (λ _. front-all w) (λ _. front-all w))))
 
 -- the part of a word of a line
-pub plain-lies : (line : List ℕ) (start end p : ℕ) → take (length (plain p (take (end - start) (drop start line)) .part)) (drop start line) ≡ plain p (take (end - start) (drop start line)) .part
-plain-lies line start end p =
+pub plain-part : (line : List ℕ) (start end p : ℕ) → take (length (plain p (take (end - start) (drop start line)) .part)) (drop start line) ≡ plain p (take (end - start) (drop start line)) .part
+plain-part line start end p =
     let w = take (end - start) (drop start line) in
     let part = plain p w .part in
     let front : take (length part) w ≡ part = plain-front p w in

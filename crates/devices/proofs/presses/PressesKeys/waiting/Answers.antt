@@ -1,6 +1,6 @@
-use mathlib.Core.Path.{sym}
+use native.Mathlib.Omega.{arith}
 use lib.ListN.{length-replicate}
 use Rattle.devices.proofs.presses.PressesKeys.waiting.Needs as need
 
 pub returns : need.returns
-returns c = sym (length-replicate _ _)
+returns c = omega (arith, length-replicate (c .args .self .now .left) (c .args .self .now .key))

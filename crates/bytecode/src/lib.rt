@@ -1,4 +1,5 @@
 //! What the reader, the verifier and the player share: kinds, descriptors, instructions, and what they take and leave.
+#![tactic(auto)]
 
 mod descriptor;
 mod effect;

@@ -1,5 +1,6 @@
 //! Drives the instruction set, the descriptors, the operand stack and the registers on cases whose answers are known, and
 //! prints a line for each.
+#![tactic(auto)]
 
 mod descriptors;
 mod effects;

@@ -1,4 +1,5 @@
 //! The proof sheet of a scene: its captions, each shown on a panel.
+#![tactic(auto)]
 
 mod sheet;
 

@@ -1,4 +1,6 @@
 //! Reads the scene in `scene.txt` and prints the proof sheet of its captions, or why the scene is refused.
+#![tactic(auto)]
+
 use captions::{Sheet, proof_sheet};
 use devices::{Frames, Panel};
 use std::fs::File;

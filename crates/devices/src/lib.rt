@@ -1,4 +1,5 @@
 //! Key sources and panels: what a show reads from, and what it shows on.
+#![tactic(auto)]
 
 mod frames;
 mod keys;

@@ -1,4 +1,5 @@
 //! Drives the key sources, the panels and the rates on cases whose answers are known, and prints a line for each.
+#![tactic(auto)]
 
 mod keys;
 mod panels;

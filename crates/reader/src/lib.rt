@@ -1,4 +1,5 @@
 //! Reads a scene text. So far: its lines, the words of each, and the refusals that arise among them.
+#![tactic(auto)]
 
 mod bytes;
 mod check;

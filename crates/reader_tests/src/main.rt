@@ -1,4 +1,5 @@
 //! Goes through tables of texts, and prints how each is read.
+#![tactic(auto)]
 
 mod lines;
 mod long;

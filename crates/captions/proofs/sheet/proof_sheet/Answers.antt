@@ -19,10 +19,10 @@ use Rattle.captions.proofs.sheet.proof_sheet.Given.{Over}
 this_line : (g : Over) (c : In-Some g) → IsLine c.args.text.now c.loop-line.lines.given c.in-Some.line
 this_line g c = subst (λ t. IsLine t c.loop-line.lines.given c.in-Some.line) c.loop-line.invariant.0 c.in-Some.ensures.gives.0
 
-pub returns-in-err-n : goal.returns-in-err-n
-returns-in-err-n g c =
-    let is = this_line g (goal.at.returns-in-err-n g c).In-Some in
-    absurd (readable_line c.args.text.now c.in-ok-check-text.ensures c.loop-line.lines.given is.within (ap words (sym is.bytes) ∙ c.in-err-n.ensures))
+pub returns-in_err-n : goal.returns-in_err-n
+returns-in_err-n g c =
+    let is = this_line g (goal.at.returns-in_err-n g c).In-Some in
+    absurd (readable_line c.args.text.now c.in_ok-check_text.ensures c.loop-line.lines.given is.within (ap words (sym is.bytes) ∙ c.in_err-n.ensures))
 
 pub loop-line-preserved : goal.loop-line-preserved
 loop-line-preserved g c =
@@ -32,13 +32,13 @@ loop-line-preserved g c =
     let is = this_line g (goal.at.loop-line-preserved g c).In-Some in
     let line = c.in-Some.line in
     let state = g.P.Panel.state in
-    let told = subst (λ s. ShowsLine line.bytes.now (state c.loop-line.panel) (Ok s) (state c.show-line.new.panel)) c.in-Complete.is c.in-ok-n.ensures in
-    let shows = line_shows text n line c.in-ok-check-text.ensures is _ _ (Complete c.in-Complete.n) told in
+    let told = subst (λ s. ShowsLine line.bytes.now (state c.loop-line.panel) (Ok s) (state c.show_line.new.panel)) c.in-Complete.is c.in_ok-n.ensures in
+    let shows = line_shows text n line c.in_ok-check_text.ensures is _ _ (Complete c.in-Complete.n) told in
     let front = joined_front line_captions (lines text) n [] is.within in
     let given = c.in-Some.ensures.gives.1 in (
       ap (λ r. r.now) c.in-Some.ensures.text ∙ inv.0,
-      subst (λ k. Shown (state c.args.panel.now) (flat_map line_captions (take k (lines text))) (state c.show-line.new.panel)) (sym given)
-          (subst (λ l. Shown (state c.args.panel.now) l (state c.show-line.new.panel)) (sym front) (shown_then _ _ _ _ _ inv.1 shows.1)),
+      subst (λ k. Shown (state c.args.panel.now) (flat_map line_captions (take k (lines text))) (state c.show_line.new.panel)) (sym given)
+          (subst (λ l. Shown (state c.args.panel.now) l (state c.show_line.new.panel)) (sym front) (shown_then _ _ _ _ _ inv.1 shows.1)),
       omega (arith, inv.2, shows.0, ap (λ k. length (flat_map line_captions (take k (lines text)))) given, ap length front, length-append (flat_map line_captions (take n (lines text))) (line_captions (get_or (lines text) n []))),
       omega (arith, inv.3, told.0, ap (line_start text) given, sum_by_more (λ l. length l + 1) (lines text) n [] is.within, ap length is.bytes),
     )
@@ -51,11 +51,11 @@ returns-in-NoRoom g c =
     let is = this_line g (goal.at.returns-in-NoRoom g c).In-Some in
     let line = c.in-Some.line in
     let state = g.P.Panel.state in
-    let told = subst (λ s. ShowsLine line.bytes.now (state c.loop-line.panel) (Ok s) (state c.show-line.new.panel)) c.in-NoRoom.is c.in-ok-n.ensures in
-    let shows = line_shows text n line c.in-ok-check-text.ensures is _ _ (NoRoom c.in-NoRoom.n) told in
+    let told = subst (λ s. ShowsLine line.bytes.now (state c.loop-line.panel) (Ok s) (state c.show_line.new.panel)) c.in-NoRoom.is c.in_ok-n.ensures in
+    let shows = line_shows text n line c.in_ok-check_text.ensures is _ _ (NoRoom c.in-NoRoom.n) told in
     let rest = flat_map line_captions (drop (n + 1) (lines text)) in (
-      c.in-ok-check-text.ensures,
-      subst (λ l. ShowsAll (state c.args.panel.now) l (NoRoom (c.loop-line.shown + c.in-NoRoom.n)) (state c.show-line.new.panel))
+      c.in_ok-check_text.ensures,
+      subst (λ l. ShowsAll (state c.args.panel.now) l (NoRoom (c.loop-line.shown + c.in-NoRoom.n)) (state c.show_line.new.panel))
           (sym (joined_parts line_captions (lines text) n [] is.within))
           (no_room_then _ _ _ (flat_map line_captions (take n (lines text))) (line_captions (get_or (lines text) n [])) rest _ _ inv.2 inv.1 shows),
     )
@@ -65,9 +65,9 @@ returns g c =
     let inv = c.loop-line.invariant in
     let text = c.args.text.now in
     let state = g.P.Panel.state in
-    let done : c.loop-line.lines.given ≡ length (lines text) = c.in-default.ensures.gives.0 ∙ ap (λ t. length (lines t)) inv.0 in
+    let done : c.loop-line.lines.given ≡ length (lines text) = c.in_default.ensures.gives.0 ∙ ap (λ t. length (lines t)) inv.0 in
     let all : take c.loop-line.lines.given (lines text) ≡ lines text = take_all _ (lines text) (omega arith) in (
-      c.in-ok-check-text.ensures,
+      c.in_ok-check_text.ensures,
       (
         inv.2 ∙ ap (λ l. length (flat_map line_captions l)) all,
         subst (λ l. Shown (state c.args.panel.now) (flat_map line_captions l) (state c.loop-line.panel)) all inv.1,

@@ -11,18 +11,18 @@ use Rattle.reader.specs.Tokens.{at_place, answered, Moves}
 use Rattle.reader.specs.Words.{words, words_from}
 use Rattle.captions.proofs.sheet.show_line.Goals as goal
 
-pub returns-in-err-token : goal.returns-in-err-token
-returns-in-err-token g c =
-    let p = err_from_is_err_and c.from-residual-in-err-token.result c.from-residual-in-err-token.ensures.1 in
+pub returns-in_err-token : goal.returns-in_err-token
+returns-in_err-token g c =
+    let p = err_from_is_err_and c.from_residual-in_err-token.result c.from_residual-in_err-token.ensures.1 in
     let inv = c.loop-token.invariant in
-    rw p.1 (cond-true _ _ _ c.in-ok-words.ensures.0 ∙ inv.1 ∙ ap (onto inv.0) c.in-err-token.ensures.words ∙ onto_none inv.0)
+    rw p.1 (cond-true _ _ _ c.in_ok-words.ensures.0 ∙ inv.1 ∙ ap (onto inv.0) c.in_err-token.ensures.words ∙ onto_none inv.0)
 
 pub loop-token-preserved : goal.loop-token-preserved
 loop-token-preserved g c =
     let inv = c.loop-token.invariant in
-    let left = c.in-ok-token.ensures in
+    let left = c.in_ok-token.ensures in
     let w = c.loop-token.words in
-    let v = c.next-word.new.self in
+    let v = c.next_word.new.self in
     let token = c.in-Some.token in
     let found = at_place token.place token.word in
     let rest = words_from v.line.now v.at in
@@ -34,7 +34,7 @@ loop-token-preserved g c =
     let same = ap (λ r. r.now) moved.1.1.0 in (
       inv.0 ++ found ∷ [],
       inv.1 ∙ ap (onto inv.0) step ∙ sym (onto_push inv.0 found rest),
-      subst (λ l. Shown (state c.args.panel.now) l (state c.show-word.new.panel)) (sym both) (shown_then _ _ _ (quotes inv.0) (quotes (found ∷ [])) inv.2 shows.1),
+      subst (λ l. Shown (state c.args.panel.now) l (state c.show_word.new.panel)) (sym both) (shown_then _ _ _ (quotes inv.0) (quotes (found ∷ [])) inv.2 shows.1),
       omega (arith, inv.3, shows.0, ap length both, length-append (quotes inv.0) (quotes (found ∷ []))),
       omega (arith, inv.4, shows.0, quotes_one found, moved.0),
       omega (arith, moved.1.0, ap length inv.6),
@@ -44,9 +44,9 @@ loop-token-preserved g c =
 pub returns-in-NoRoom : goal.returns-in-NoRoom
 returns-in-NoRoom g c =
     let inv = c.loop-token.invariant in
-    let left = c.in-ok-token.ensures in
+    let left = c.in_ok-token.ensures in
     let w = c.loop-token.words in
-    let v = c.next-word.new.self in
+    let v = c.next_word.new.self in
     let token = c.in-Some.token in
     let found = at_place token.place token.word in
     let rest = words_from v.line.now v.at in
@@ -56,24 +56,24 @@ returns-in-NoRoom g c =
     let state = g.P.Panel.state in (
       omega (arith, inv.4, inv.5, shows.0, quotes_one found, moved.0, moved.1.0, ap length inv.6),
       λ ws all.
-          let from_front : onto (inv.0 ++ found ∷ []) rest ≡ Some ws = onto_push inv.0 found rest ∙ sym (ap (onto inv.0) step) ∙ sym inv.1 ∙ sym (cond-true _ _ _ c.in-ok-words.ensures.0) ∙ all in
+          let from_front : onto (inv.0 ++ found ∷ []) rest ≡ Some ws = onto_push inv.0 found rest ∙ sym (ap (onto inv.0) step) ∙ sym inv.1 ∙ sym (cond-true _ _ _ c.in_ok-words.ensures.0) ∙ all in
           let parts = onto_parts (inv.0 ++ found ∷ []) ws rest from_front in
           let texts : quotes ws ≡ quotes inv.0 ++ (quotes (found ∷ []) ++ quotes parts.0) =
           ap quotes (parts.2 ∙ append_assoc inv.0 (found ∷ []) parts.0) ∙ quotes-append inv.0 (found ∷ [] ++ parts.0) ∙ ap (λ l. quotes inv.0 ++ l) (quotes-append (found ∷ []) parts.0) in
-          subst (λ l. ShowsAll (state c.args.panel.now) l (NoRoom (c.loop-token.shown + c.in-NoRoom.n)) (state c.show-word.new.panel)) (sym texts)
+          subst (λ l. ShowsAll (state c.args.panel.now) l (NoRoom (c.loop-token.shown + c.in-NoRoom.n)) (state c.show_word.new.panel)) (sym texts)
           (no_room_then _ _ _ (quotes inv.0) (quotes (found ∷ [])) (quotes parts.0) _ _ inv.3 inv.2 shows),
     )
 
 pub returns : goal.returns
 returns g c =
     let inv = c.loop-token.invariant in
-    let left = c.in-ok-token.ensures in
-    let v = c.next-word.new.self in
-    let step = left.words ∙ ap (λ f. answered (Ok f) (words_from v.line.now v.at)) c.in-default.is in
+    let left = c.in_ok-token.ensures in
+    let v = c.next_word.new.self in
+    let step = left.words ∙ ap (λ f. answered (Ok f) (words_from v.line.now v.at)) c.in_default.is in
     let state = g.P.Panel.state in (
       omega (arith, inv.4, inv.5),
       λ ws all.
-          let from_front : onto inv.0 (Some []) ≡ Some ws = sym (ap (onto inv.0) step) ∙ sym inv.1 ∙ sym (cond-true _ _ _ c.in-ok-words.ensures.0) ∙ all in
+          let from_front : onto inv.0 (Some []) ≡ Some ws = sym (ap (onto inv.0) step) ∙ sym inv.1 ∙ sym (cond-true _ _ _ c.in_ok-words.ensures.0) ∙ all in
           let some = sym (onto_some inv.0 []) ∙ from_front in
           let whole : inv.0 ++ [] ≡ ws = cc in
           let same : inv.0 ≡ ws = sym (append-nil inv.0) ∙ whole in

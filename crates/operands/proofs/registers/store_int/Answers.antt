@@ -12,6 +12,6 @@ returns-then-n-registers g c = record {
 
 pub returns : goal.returns
 returns g c = record {
-  value = stored_int c.args.registers.now _ _ c.args.n c.args.value (omega arith) c.unset-first-half.ensures c.unset-second-half.ensures;
+  value = stored_int c.args.registers.now _ _ c.args.n c.args.value (omega arith) c.unset_first_half.ensures c.unset_second_half.ensures;
   pairs = keeps_pairs _ _;
 }

@@ -8,10 +8,10 @@ returns-in-LongFirst g c =
     let rs = c.args.registers.now in
     ap (λ r. set rs (c.args.end - 1) (no_first r)) (sym c.in-LongFirst.is) ∙ unset_first rs c.args.end _ c.if-end-gt0.true c.requires c.index-registers-end.is
 
-pub returns-in-default : goal.returns-in-default
-returns-in-default g c =
+pub returns-in_default : goal.returns-in_default
+returns-in_default g c =
     let rs = c.args.registers.now in
     let r = c.index-registers-end.result in
     sym (set_same rs (c.args.end - 1) r c.index-registers-end.is)
-    ∙ ap (set rs (c.args.end - 1)) (no_first_kept r c.in-default.not-LongFirst)
+    ∙ ap (set rs (c.args.end - 1)) (no_first_kept r c.in_default.not-LongFirst)
     ∙ unset_first rs c.args.end r c.if-end-gt0.true c.requires c.index-registers-end.is

@@ -8,12 +8,12 @@ returns-in-LongSecond g c =
     let rs = c.args.registers.now in
     ap (λ r. set rs c.args.start (no_second r)) (sym c.in-LongSecond.is) ∙ unset_second rs c.args.start _ c.if-start-registers.true c.index-registers-start.is
 
-pub returns-in-default : goal.returns-in-default
-returns-in-default g c =
+pub returns-in_default : goal.returns-in_default
+returns-in_default g c =
     let rs = c.args.registers.now in
     let r = c.index-registers-start.result in
     sym (set_same rs c.args.start r c.index-registers-start.is)
-    ∙ ap (set rs c.args.start) (no_second_kept r c.in-default.not-LongSecond)
+    ∙ ap (set rs c.args.start) (no_second_kept r c.in_default.not-LongSecond)
     ∙ unset_second rs c.args.start r c.if-start-registers.true c.index-registers-start.is
 
 pub returns-else-start-registers : goal.returns-else-start-registers

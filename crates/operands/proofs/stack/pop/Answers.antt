@@ -5,8 +5,8 @@ use Rattle.operands.proofs.stack.pop.Goals as goal
 pub returns-in-0 : goal.returns-in-0
 returns-in-0 g c = none_stacked c.args.cells.now c.args.used c.min.result c.min.ensures c.in-0.is
 
-pub returns-in-default : goal.returns-in-default
-returns-in-default g c = (
+pub returns-in_default : goal.returns-in_default
+returns-in_default g c = (
   some_stacked c.args.cells.now c.args.used c.min.result c.min.ensures c.index-cells-n.result _ _ c.index-cells-n.is (omega arith) (omega arith),
   (omega arith, omega arith),
 )

@@ -6,8 +6,8 @@ use Rattle.operands.specs.Stacks.{slots_of}
 use Rattle.operands.proofs.Stacking.{same_stack, slots-stacked}
 use Rattle.operands.proofs.stack.slots.Goals as goal
 
-pub overflow-add-sum : goal.overflow-add-sum
-overflow-add-sum g c = record { fits = omega (arith, c.loop-cell.invariant.1, c.slots.type-inv) }
+pub overflow_add-sum : goal.overflow_add-sum
+overflow_add-sum g c = record { fits = omega (arith, c.loop-cell.invariant.1, c.slots.type_inv) }
 
 pub loop-cell-preserved : goal.loop-cell-preserved
 loop-cell-preserved g c =

@@ -6,21 +6,21 @@ use Rattle.bytecode.specs.Kinds.{size}
 use Rattle.bytecode.specs.Signatures.{Ends, Reads}
 use Rattle.bytecode.proofs.Describing.{ReadSoFar, all_read, no_end, none_read, one_more_read, spelled_opens, spells_once, too_many}
 use Rattle.bytecode.proofs.descriptor.Descriptor.parse.Goals as goal
-use Rattle.bytecode.proofs.descriptor.Descriptor.parse.Goals.{then-is-empty-via-then-is-empty, then-is-empty-via-else-is-empty+then-text-ne40}
+use Rattle.bytecode.proofs.descriptor.Descriptor.parse.Goals.{then-is_empty-via-then-is_empty, then-is_empty-via-else-is_empty+then-text-ne40}
 
-pub returns-then-is-empty : goal.returns-then-is-empty
-returns-then-is-empty c = record {
+pub returns-then-is_empty : goal.returns-then-is_empty
+returns-then-is_empty c = record {
   value = λ s fits spells.
       let opens = spelled_opens s c.args.text.now spells in
-      elim c.then-is-empty.branch [
-        | then-is-empty-via-then-is-empty w ↦ omega (arith, eqb-true _ 0 (sym w.if-is-empty.ensures))
-        | then-is-empty-via-else-is-empty+then-text-ne40 w ↦ omega (arith, w.if-text-ne40.true)
+      elim c.then-is_empty.branch [
+        | then-is_empty-via-then-is_empty w ↦ omega (arith, eqb-true _ 0 (sym w.if-is_empty.ensures))
+        | then-is_empty-via-else-is_empty+then-text-ne40 w ↦ omega (arith, w.if-text-ne40.true)
       ];
   once = spells_once;
 }
 
 pub loop-parameter-init : goal.loop-parameter-init
-loop-parameter-init c = none_read c.args.text.now _ (omega (arith, eqb-false _ 0 (sym c.if-is-empty.ensures))) c.if-text-ne40.false refl
+loop-parameter-init c = none_read c.args.text.now _ (omega (arith, eqb-false _ 0 (sym c.if-is_empty.ensures))) c.if-text-ne40.false refl
 
 pub returns-then-registers-gt-MOST : goal.returns-then-registers-gt-MOST
 returns-then-registers-gt-MOST c = record {
@@ -40,13 +40,13 @@ loop-parameter-preserved c =
     (sym same)
     (one_more_read c.args.text.now _ _ _ c.loop-parameter.invariant parameter begins.0 begins.1 (omega arith))
 
-pub returns-in-err-result : goal.returns-in-err-result
-returns-in-err-result c =
+pub returns-in_err-result : goal.returns-in_err-result
+returns-in_err-result c =
     let text = c.args.text.now in
     let count = c.loop-parameter.count in
     record {
       value =
-          subst (Reads text) (sym c.from-residual.ensures) (no_end text _ count _ c.loop-parameter.invariant c.in-default.ensures (subst (λ l. Ends l None) (take_rest text (count + 1)) c.in-err-result.ensures));
+          subst (Reads text) (sym c.from_residual.ensures) (no_end text _ count _ c.loop-parameter.invariant c.in_default.ensures (subst (λ l. Ends l None) (take_rest text (count + 1)) c.in_err-result.ensures));
       once = spells_once;
     }
 
@@ -54,8 +54,8 @@ pub returns : goal.returns
 returns c =
     let text = c.args.text.now in
     let count = c.loop-parameter.count in
-    let result = c.in-ok-result.result in
+    let result = c.in_ok-result.result in
     record {
-      value = all_read text _ count _ c.loop-parameter.invariant result (subst (λ l. Ends l (Some result)) (take_rest text (count + 1)) c.in-ok-result.ensures);
+      value = all_read text _ count _ c.loop-parameter.invariant result (subst (λ l. Ends l (Some result)) (take_rest text (count + 1)) c.in_ok-result.ensures);
       once = spells_once;
     }

@@ -13,8 +13,8 @@ counted c =
     (λ k. c.loop-parameter.invariant.1 k + (c.registers-sum.ensures ∙ ap size c.number.ensures) k)
     ∙ sym (sum_by_more (λ t. size (number_of t)) items i Char c.loop-parameter-test.true)
 
-pub overflow-add-sum : goal.overflow-add-sum
-overflow-add-sum c =
+pub overflow_add-sum : goal.overflow_add-sum
+overflow_add-sum c =
     let items = c.parameters-parameter-items.result.now in
     let i = c.loop-parameter.parameter-index in
     let part : registers_of (take (i + 1) items) ≤ registers_of items = sum_by-take-le (λ t. size (number_of t)) items (i + 1) in

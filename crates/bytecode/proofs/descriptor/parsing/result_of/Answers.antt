@@ -11,4 +11,4 @@ returns-then-rest-ne2 c t e =
     ]
 
 pub returns : goal.returns
-returns c = ends_at c.args.rest.now c.from-letter.result c.if-rest-ne2.false c.if-rest-ne41.false c.from-letter.ensures
+returns c = ends_at c.args.rest.now c.from_letter.result c.if-rest-ne2.false c.if-rest-ne41.false c.from_letter.ensures

@@ -16,8 +16,8 @@ fits c =
     let text = c.args.text.now in
     omega (arith, c.cost.ensures.value text refl, roll_cost text)
 
-pub invariant-of-self : goal.invariant-of-self
-invariant-of-self c = (omega (arith, grows_room _ _ _ _ _ 0 c.append.ensures (omega (arith, fits c))), tt)
+pub invariant_of-self : goal.invariant_of-self
+invariant_of-self c = (omega (arith, grows_room _ _ _ _ _ 0 c.append.ensures (omega (arith, fits c))), tt)
 
 pub returns : goal.returns
 returns c =

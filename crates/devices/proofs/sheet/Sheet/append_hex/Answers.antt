@@ -22,7 +22,7 @@ push-requires-in-loop-b c =
     let i = c.loop-b.b-index in
     let long : length (take i text) ≡ i = length-take-le i text (omega arith) in
     let room = grows_room _ _ _ _ (hex (take i text)) 2 c.loop-b.invariant (omega (arith, length-hex (take i text))) in
-    grows_room _ _ _ _ (c.hex-digit.result ∷ []) 1 c.push.ensures (omega arith)
+    grows_room _ _ _ _ (c.hex_digit.result ∷ []) 1 c.push.ensures (omega arith)
 
 pub loop-b-preserved : goal.loop-b-preserved
 loop-b-preserved c =
@@ -31,10 +31,10 @@ loop-b-preserved c =
     let b = get_or text i 0 in
     let long : length (take i text) ≡ i = length-take-le i text (omega arith) in
     let room = grows_room _ _ _ _ (hex (take i text)) 2 c.loop-b.invariant (omega (arith, length-hex (take i text))) in
-    let two = grows_more _ _ _ _ _ _ (c.hex-digit.result ∷ []) _ c.push.ensures c.push-in-loop-b.ensures (omega arith) in
+    let two = grows_more _ _ _ _ _ _ (c.hex_digit.result ∷ []) _ c.push.ensures c.push-in-loop-b.ensures (omega arith) in
     let all = grows_more _ _ _ _ _ _ (hex (take i text)) _ c.loop-b.invariant two (omega (arith, length-hex (take i text))) in
-    let digits : hex (take i text) ++ (c.hex-digit.result ∷ c.hex-digit-in-loop-b.result ∷ []) ≡ hex (take (i + 1) text) =
-    (λ k. hex (take i text) ++ (c.hex-digit.ensures k ∷ c.hex-digit-in-loop-b.ensures k ∷ []))
+    let digits : hex (take i text) ++ (c.hex_digit.result ∷ c.hex_digit-in-loop-b.result ∷ []) ≡ hex (take (i + 1) text) =
+    (λ k. hex (take i text) ++ (c.hex_digit.ensures k ∷ c.hex_digit-in-loop-b.ensures k ∷ []))
     ∙ sym (hex_push (take i text) b)
     ∙ ap hex (sym (take_more text i 0 (omega arith))) in
     subst (λ l. Grows c.args.self.now.buffer c.args.self.now.used l c.push-in-loop-b.new.self.buffer c.push-in-loop-b.new.self.used) digits all

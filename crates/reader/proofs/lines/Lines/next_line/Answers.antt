@@ -9,39 +9,39 @@ returns-then-start-text c =
     let s = c.args.self.now in
     record { gives = (all_given s.text.now s.at s.given s.placed s.counted s.left c.if-start-text.true, refl); text = refl }
 
-pub overflow-add-number : goal.overflow-add-number
-overflow-add-number c =
+pub overflow_add-number : goal.overflow_add-number
+overflow_add-number c =
     let s = c.args.self.now in
     let few = few_given s.text.now s.at s.given s.placed s.counted s.left in
     search rules
 
-pub overflow-add-self : goal.overflow-add-self
-overflow-add-self c =
+pub overflow_add-self : goal.overflow_add-self
+overflow_add-self c =
     let s = c.args.self.now in
     let short = s.short in
-    let within = c.run-end-end.ensures.within (omega arith) in
+    let within = c.run_end-end.ensures.within (omega arith) in
     search rules
 
-pub invariant-of-self : goal.invariant-of-self
-invariant-of-self c =
+pub invariant_of-self : goal.invariant_of-self
+invariant_of-self c =
     let s = c.args.self.now in
-    let end = c.run-end-end.result in
-    let ends = c.run-end-end.ensures.value in
+    let end = c.run_end-end.result in
+    let ends = c.run_end-end.ensures.value in
     let more = c.if-start-text.false in
-    let placed = next_placed s.text.now s.at s.given s.placed s.counted s.left more end ends (c.run-end-end.ensures.within (omega arith)) in
+    let placed = next_placed s.text.now s.at s.given s.placed s.counted s.left more end ends (c.run_end-end.ensures.within (omega arith)) in
     let within = next_within s.text.now s.at s.given s.placed s.counted s.left more end ends in
     (s.short, (placed, (omega arith, (next_left s.text.now s.at s.given s.placed s.counted s.left more end ends, tt))))
 
-pub slice-bounds-result-end : goal.slice-bounds-result-end
-slice-bounds-result-end c = search rules
+pub slice_bounds-result-end : goal.slice_bounds-result-end
+slice_bounds-result-end c = search rules
 
 pub returns : goal.returns
 returns c =
     let s = c.args.self.now in
-    let end = c.run-end-end.result in
-    let ends = c.run-end-end.ensures.value in
+    let end = c.run_end-end.result in
+    let ends = c.run_end-end.ensures.value in
     let more = c.if-start-text.false in
-    let inside = c.run-end-end.ensures.within (omega arith) in
+    let inside = c.run_end-end.ensures.within (omega arith) in
     let long = length-take-le (end - s.at) (drop s.at s.text.now) (omega (arith, length-drop s.at s.text.now)) in
     let line : IsLine s.text.now s.given _ = record {
       within = next_within s.text.now s.at s.given s.placed s.counted s.left more end ends;

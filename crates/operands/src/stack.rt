@@ -29,7 +29,7 @@ pub enum StackOp {
 /// How many slots the stack of the first `used` cells takes. A `usize` holds how many cells a slice has, but not always
 /// twice as many.
 pub fn slots<C: Cell>(cells: &[C], used: usize) -> u128
-    ensures { result ≡ slots_of size (stacked cells.now used) }
+    ensures { result ≡ slots_of C.size (stacked cells.now used) }
 {
     let used = used.min(cells.len());
     let mut sum = 0;
@@ -62,8 +62,8 @@ pub fn pop<C: Cell>(cells: &[C], used: usize) -> Option<(C, usize)>
 /// Puts a cell on top of the first `used` cells and answers how many there are then. Refuses where the stack would take
 /// more than 16 slots or more cells than were lent, and then alters nothing.
 pub fn push<C: Cell>(cells: &mut [C], used: usize, cell: C) -> Option<usize>
-    ensures becomes { Becomes size (Some (cell ∷ stacked cells.old used)) cells.old used result cells.new }
-    ensures few { FewCells size }
+    ensures becomes { Becomes C.size (Some (cell ∷ stacked cells.old used)) cells.old used result cells.new }
+    ensures few { FewCells C.size }
 {
     let used = used.min(cells.len());
     if used == cells.len() || !slots_suffice(cells, used, cell.slots()) {
@@ -77,7 +77,7 @@ pub fn push<C: Cell>(cells: &mut [C], used: usize, cell: C) -> Option<usize>
 /// Refuses where the instruction does not fit the cells on top, or where the stack that it leaves would take more than
 /// 16 slots or more cells than were lent, and then alters nothing.
 pub fn rearrange<C: Cell>(cells: &mut [C], used: usize, op: StackOp) -> Option<usize>
-    ensures { Becomes size (rearranged size op (stacked cells.old used)) cells.old used result cells.new }
+    ensures { Becomes C.size (rearranged C.size op (stacked cells.old used)) cells.old used result cells.new }
 {
     match op {
         StackOp::Dup => dup(cells, used),
@@ -90,14 +90,14 @@ pub fn rearrange<C: Cell>(cells: &mut [C], used: usize, op: StackOp) -> Option<u
 
 /// Whether 16 slots suffice for the first `used` cells and `more` slots besides.
 fn slots_suffice<C: Cell>(cells: &[C], used: usize, more: usize) -> bool
-    ensures { result ≡ nat_le (slots_of size (stacked cells.now used) + more) 16 }
+    ensures { result ≡ nat_le (slots_of C.size (stacked cells.now used) + more) 16 }
 {
     slots(cells, used) + more as u128 <= MOST_SLOTS
 }
 
 /// Leaves the first `used` cells as they are, where they take at most 16 slots.
 fn keep<C: Cell>(cells: &[C], used: usize) -> Option<usize>
-    ensures { Becomes size (Some (stacked cells.now used)) cells.now used result cells.now }
+    ensures { Becomes C.size (Some (stacked cells.now used)) cells.now used result cells.now }
 {
     if slots_suffice(cells, used, 0) {
         Some(used.min(cells.len()))
@@ -108,7 +108,7 @@ fn keep<C: Cell>(cells: &[C], used: usize) -> Option<usize>
 
 /// Puts two cells on top of the first `used` cells, or neither.
 fn push_two<C: Cell>(cells: &mut [C], used: usize, second: C, top: C) -> Option<usize>
-    ensures { Becomes size (Some (top ∷ second ∷ stacked cells.old used)) cells.old used result cells.new }
+    ensures { Becomes C.size (Some (top ∷ second ∷ stacked cells.old used)) cells.old used result cells.new }
 {
     let used = used.min(cells.len());
     if cells.len() - used < 2 || !slots_suffice(cells, used, second.slots() + top.slots()) {
@@ -121,7 +121,7 @@ fn push_two<C: Cell>(cells: &mut [C], used: usize, second: C, top: C) -> Option<
 
 /// Copies a top of one slot.
 fn dup<C: Cell>(cells: &mut [C], used: usize) -> Option<usize>
-    ensures { Becomes size (rearranged size ops.Dup (stacked cells.old used)) cells.old used result cells.new }
+    ensures { Becomes C.size (rearranged C.size ops.Dup (stacked cells.old used)) cells.old used result cells.new }
 {
     let top = peek(cells, used)?;
     if top.slots() != 1 {
@@ -132,7 +132,7 @@ fn dup<C: Cell>(cells: &mut [C], used: usize) -> Option<usize>
 
 /// Copies a top of two slots, or the two cells of one slot on top.
 fn dup2<C: Cell>(cells: &mut [C], used: usize) -> Option<usize>
-    ensures { Becomes size (rearranged size ops.Dup2 (stacked cells.old used)) cells.old used result cells.new }
+    ensures { Becomes C.size (rearranged C.size ops.Dup2 (stacked cells.old used)) cells.old used result cells.new }
 {
     let (top, left) = pop(cells, used)?;
     if top.slots() == 2 {
@@ -147,7 +147,7 @@ fn dup2<C: Cell>(cells: &mut [C], used: usize) -> Option<usize>
 
 /// Takes away a top of one slot.
 fn pop_one<C: Cell>(cells: &[C], used: usize) -> Option<usize>
-    ensures { Becomes size (rearranged size ops.Pop (stacked cells.now used)) cells.now used result cells.now }
+    ensures { Becomes C.size (rearranged C.size ops.Pop (stacked cells.now used)) cells.now used result cells.now }
 {
     let (top, left) = pop(cells, used)?;
     if top.slots() != 1 {
@@ -158,7 +158,7 @@ fn pop_one<C: Cell>(cells: &[C], used: usize) -> Option<usize>
 
 /// Takes away a top of two slots, or the two cells of one slot on top.
 fn pop_two<C: Cell>(cells: &[C], used: usize) -> Option<usize>
-    ensures { Becomes size (rearranged size ops.Pop2 (stacked cells.now used)) cells.now used result cells.now }
+    ensures { Becomes C.size (rearranged C.size ops.Pop2 (stacked cells.now used)) cells.now used result cells.now }
 {
     let (top, left) = pop(cells, used)?;
     if top.slots() == 2 {
@@ -173,7 +173,7 @@ fn pop_two<C: Cell>(cells: &[C], used: usize) -> Option<usize>
 
 /// Exchanges the two cells of one slot on top.
 fn swap<C: Cell>(cells: &mut [C], used: usize) -> Option<usize>
-    ensures { Becomes size (rearranged size ops.Swap (stacked cells.old used)) cells.old used result cells.new }
+    ensures { Becomes C.size (rearranged C.size ops.Swap (stacked cells.old used)) cells.old used result cells.new }
 {
     let (top, left) = pop(cells, used)?;
     let (second, left) = pop(cells, left)?;

@@ -1,7 +1,8 @@
 -- What a panel over a buffer means once the buffer has grown by a text's line. Assumes nothing.
-use Rattle.std.proofs.Common.{◌≡◌, ℕ, ◌+◌, ◌-◌, ◌<◌, ◌≤◌, List, [], ◌∷◌, ◌++◌, length, take, sym, ap, ◌∙◌, subst, append-nil, arith, Bor}
+use Rattle.std.proofs.Common.{◌≡◌, ℕ, ◌+◌, ◌-◌, ◌<◌, ◌≤◌, List, [], ◌∷◌, ◌++◌, length, take, sym, ap, ◌∙◌, subst, append-nil, arith}
 use Rattle.std.specs.List.{flat_map, AllByRecursion as All}
 use Rattle.std.proofs.lemmas.List.{flat_map_more}
+use Rattle.std.specs.Borrow.{MutBor}
 use Rattle.devices.specs.Buffers.{Grows, capacity}
 use Rattle.devices.specs.Costs.{cost}
 use Rattle.devices.specs.Hex.{line, page, texts_of}
@@ -12,7 +13,7 @@ use Rattle.devices.proofs.Costing.{roll_cost, frames_cost}
 use Rattle.devices.proofs.Decoding.{texts_more, page_more}
 
 -- the units that are left fall by what was written
-units_fall : (a b : Bor (List ℕ)) (i j : ℕ) (xs : List ℕ) → Grows a i xs b j → i + length xs ≤ capacity a.now → capacity b.now - j ≡ capacity a.now - i - length xs
+units_fall : (a b : MutBor (List ℕ)) (i j : ℕ) (xs : List ℕ) → Grows a i xs b j → i + length xs ≤ capacity a.now → capacity b.now - j ≡ capacity a.now - i - length xs
 units_fall a b i j xs g fits = omega (arith, grows_capacity a b i j xs g fits, g.used)
 
 -- the bytes of the texts of a page, with a line more
@@ -28,7 +29,7 @@ lines_more : (w : List ℕ) → page (texts_of w) ≡ w → (t : List ℕ) → A
 lines_more w whole [] bytes = rw (append-nil w) whole
 lines_more w whole (b ∷ t) bytes = page_more w whole (b ∷ t) bytes
 
-module _ (a b : Bor (List ℕ)) (i j : ℕ) (t : List ℕ) where
+module _ (a b : MutBor (List ℕ)) (i j : ℕ) (t : List ℕ) where
   pub roll_shows : Grows a i t b j → i + length t ≤ capacity a.now → roll_state b.now j ≡ shown_on (roll_state a.now i) t
   roll_shows g fits =
       let units : capacity b.now - j ≡ capacity a.now - i - cost roll_rate t = units_fall a b i j t g fits ∙ ap (λ n. capacity a.now - i - n) (sym (roll_cost t)) in

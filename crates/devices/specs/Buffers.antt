@@ -1,5 +1,5 @@
 -- A lent buffer, and a line appended to what is written in it. Assumes nothing.
-use Rattle.std.specs.Borrow.{Bor, MutBor}
+use Rattle.std.specs.Borrow.{MutBor}
 use Rattle.std.specs.Prelude.{◌≡◌, ℕ, ◌+◌, min, List, ◌++◌, length, take, drop, Ok, Err, Result}
 use Rattle.devices.specs.declared.panel.NoRoom.{NoRoom}
 
@@ -20,6 +20,6 @@ pub record Grows (before : MutBor (List ℕ)) (n : ℕ) (line : List ℕ) (after
 
 -- `Appends before n line r after m`: where r is a success the buffer grows by the line; where it is a refusal,
 -- no byte of it and no number has changed.
-abbrev pub Appends : Bor (List ℕ) → ℕ → List ℕ → Result (Unit {0}) NoRoom → Bor (List ℕ) → ℕ → Type 0
+abbrev pub Appends : MutBor (List ℕ) → ℕ → List ℕ → Result (Unit {0}) NoRoom → MutBor (List ℕ) → ℕ → Type 0
 Appends before n line (Ok _) after m = Grows before n line after m
 Appends before n line (Err _) after m = (after ≡ before) × (m ≡ n)

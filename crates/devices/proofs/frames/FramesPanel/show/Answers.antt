@@ -23,10 +23,10 @@ bytes : (c : After-append_line) → All (λ b. b < 256) c.args.text.now
 bytes c = All-from_get_or (λ b. b < 256) c.args.text.now 0 (λ i _. let h = c.type_inv.text i in search rules)
 
 pub invariant_of-self : goal.invariant_of-self
-invariant_of-self c = (
-  omega (arith, grows_room _ _ _ _ _ 0 c.append_line.ensures (omega (arith, fits c))),
-  (frames_lines _ _ _ _ c.args.text.now c.args.self.now.lines (bytes c) c.append_line.ensures (fits c), tt),
-)
+invariant_of-self c = record {
+  within = omega (arith, grows_room _ _ _ _ _ 0 c.append_line.ensures (omega (arith, fits c)));
+  lines = frames_lines _ _ _ _ c.args.text.now c.args.self.now.lines (bytes c) c.append_line.ensures (fits c);
+}
 
 pub returns : goal.returns
 returns c =

@@ -17,7 +17,7 @@ fits c =
     omega (arith, c.cost.ensures.value text refl, roll_cost text)
 
 pub invariant_of-self : goal.invariant_of-self
-invariant_of-self c = (omega (arith, grows_room _ _ _ _ _ 0 c.append.ensures (omega (arith, fits c))), tt)
+invariant_of-self c = record { within = omega (arith, grows_room _ _ _ _ _ 0 c.append.ensures (omega (arith, fits c))) }
 
 pub returns : goal.returns
 returns c =

@@ -15,8 +15,8 @@ returns-else-has c = record {
   value = omega (arith, c.loop-end.invariant.0, prefix_len-drop_no (is c.args.class) c.args.bytes.now c.loop-end.end 0 c.loop-end-test.true (sym c.if-has.ensures));
 }
 
-pub returns-after_loop-end : goal.returns-after_loop-end
-returns-after_loop-end c = record {
+pub returns-after-loop-end : goal.returns-after-loop-end
+returns-after-loop-end c = record {
   within = c.loop-end.invariant.1;
   value = omega (arith, c.loop-end.invariant.0, prefix_len-drop_all (is c.args.class) c.args.bytes.now c.loop-end.end c.loop-end-test.false);
 }

@@ -30,7 +30,12 @@ invariant_of-self c =
     let more = c.if-start-text.false in
     let placed = next_placed s.text.now s.at s.given s.placed s.counted s.left more end ends (c.run_end-end.ensures.within (omega arith)) in
     let within = next_within s.text.now s.at s.given s.placed s.counted s.left more end ends in
-    (s.short, (placed, (omega arith, (next_left s.text.now s.at s.given s.placed s.counted s.left more end ends, tt))))
+    record {
+      short = s.short;
+      placed = placed;
+      counted = omega arith;
+      left = next_left s.text.now s.at s.given s.placed s.counted s.left more end ends;
+    }
 
 pub slice_bounds-result-end : goal.slice_bounds-result-end
 slice_bounds-result-end c = search rules

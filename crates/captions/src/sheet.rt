@@ -18,7 +18,7 @@ pub enum Sheet {
 /// Shows the captions of a scene text on a panel, in order, until one finds no room.
 /// A text that is refused shows nothing.
 pub fn proof_sheet<P: Panel>(text: &[u8], panel: &mut P) -> Result<Sheet, Fault>
-    ensures { ProofSheet text.now (state panel.old) result (state panel.new) }
+    ensures { ProofSheet text.now (P.state panel.old) result (P.state panel.new) }
 {
     check_text(text)?;
     let mut lines = Lines::new(text);
@@ -34,7 +34,7 @@ pub fn proof_sheet<P: Panel>(text: &[u8], panel: &mut P) -> Result<Sheet, Fault>
 
 /// Shows the captions of a line.
 fn show_line<P: Panel>(line: Line<'_>, panel: &mut P) -> Result<Sheet, WordFault>
-    ensures { ShowsLine line.entry.bytes.now (state panel.old) result (state panel.new) }
+    ensures { ShowsLine line.entry.bytes.now (P.state panel.old) result (P.state panel.new) }
 {
     let mut words = Words::of(line)?;
     let mut shown = 0;
@@ -49,7 +49,7 @@ fn show_line<P: Panel>(line: Line<'_>, panel: &mut P) -> Result<Sheet, WordFault
 
 /// Shows a word that is a caption, and passes over any other.
 fn show_word<P: Panel>(token: Token<'_>, panel: &mut P) -> Sheet
-    ensures { ShowsAll (state panel.old) (quotes (at_place token.entry.place token.entry.word ∷ [])) result (state panel.new) }
+    ensures { ShowsAll (P.state panel.old) (quotes (at_place token.entry.place token.entry.word ∷ [])) result (P.state panel.new) }
 {
     let Word::Quoted(text) = token.word else {
         return Sheet::Complete(0);

@@ -1,5 +1,5 @@
 -- All mnemonics, and that no two are spelled alike. Assumes nothing.
-use Rattle.std.proofs.Common.{◌≡◌, ℕ, ◌<◌, cond, List, [], ◌∷◌, map, length, get_or, Some, None, Option, sym, refl, ap, ◌∙◌, lit<}
+use Rattle.std.proofs.Common.{◌≡◌, ℕ, ◌<◌, cond, List, [], ◌∷◌, map, get_or, Some, None, Option, sym, refl, ap, ◌∙◌, lit<}
 use Rattle.std.proofs.lemmas.List.{get_or-map}
 use Rattle.std.specs.Str.{bytes_eq}
 use Rattle.bytecode.specs.Mnemonics.{spelling}

@@ -1,11 +1,11 @@
 -- A frame stays a frame through an instruction, and the transfer is monotone. Assumes nothing.
-use Rattle.std.proofs.Common.{◌≡◌, ℕ, ◌≤◌, Bool, true, false, leb, List, [], ◌∷◌, ◌++◌, length, Some, None, Option, sym, refl, ap, ◌∙◌, subst, arith}
+use Rattle.std.proofs.Common.{◌≡◌, ℕ, ◌≤◌, leb, List, ◌++◌, length, Some, None, Option, sym, refl, ap, ◌∙◌, subst, arith}
 use Rattle.std.proofs.lemmas.Bool.{cond-true, leb-true, le-leb}
 use Rattle.bytecode.specs.Frames.{KindRegister, Frame, IsFrame, Links, stack_after, number_cells, where_some, hands_over, registers_after, framed, transfer, Below, over, TransferLaws}
 use Rattle.bytecode.specs.Instructions.{Use, plain, reads, writes, returns, effect_of, use_of}
 use Rattle.bytecode.specs.Kinds.{slots}
-use Rattle.operands.specs.Registers.{AllWithin, Paired, none, int, long, int_at, long_at, stored}
-use Rattle.operands.specs.Stacks.{slots_of, when}
+use Rattle.operands.specs.Registers.{AllWithin, Paired, none, int, long, int_at, long_at}
+use Rattle.operands.specs.Stacks.{slots_of}
 use Rattle.bytecode.specs.declared.descriptor.ReturnType.{ReturnType}
 use Rattle.bytecode.specs.declared.instruction.Instruction.{Instruction}
 use Rattle.bytecode.specs.declared.kind.Kind.{Kind}

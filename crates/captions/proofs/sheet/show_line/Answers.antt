@@ -8,7 +8,7 @@ use Rattle.captions.proofs.Quoting.{quotes-append, quotes_one}
 use Rattle.captions.proofs.Showing.{shown_then, no_room_then}
 use Rattle.reader.proofs.Gathering.{onto, onto_push, onto_parts, onto_some, onto_none}
 use Rattle.reader.specs.Tokens.{at_place, answered, Moves}
-use Rattle.reader.specs.Words.{words, words_from}
+use Rattle.reader.specs.Words.{words_from}
 use Rattle.captions.proofs.sheet.show_line.Goals as goal
 
 pub returns-in_err-token : goal.returns-in_err-token

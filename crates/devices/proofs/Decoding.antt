@@ -1,6 +1,6 @@
 -- Encoding and decoding are inverse. Assumes nothing.
 use Rattle.std.proofs.Common.{◌≡◌, ℕ, ◌+◌, ◌*◌, ◌/◌, ◌%◌, ◌<◌, Bool, true, false, eqb, List, [], ◌∷◌, ◌++◌, map, length, sym, refl, ap, ◌∙◌, append_assoc, append-nil, arith}
-use Rattle.std.specs.List.{AllByRecursion as All}
+use Rattle.std.specs.List.{AllByRecursion}
 use Rattle.std.proofs.lemmas.Bool.Decides.{nat_tests}
 use Rattle.std.proofs.lemmas.Bool.{cond-false}
 use Rattle.devices.specs.Hex.{digit, number, hex, line, page, onto_first, texts_of, is_digit, Digits, done, closes, pair, Inverse}
@@ -39,15 +39,15 @@ back_byte b h =
     let low = number-digit (b % 16) (omega arith) in
     omega arith
 
-back_text : (t : List ℕ) → All (λ b. b < 256) t → map back t ≡ t
+back_text : (t : List ℕ) → AllByRecursion (λ b. b < 256) t → map back t ≡ t
 back_text [] h = refl
 back_text (b ∷ t) h = ap (λ c. c ∷ map back t) (back_byte b h.0) ∙ ap (λ l. b ∷ l) (back_text t h.1)
 
-back_texts : (ts : List (List ℕ)) → All (All (λ b. b < 256)) ts → map (map back) ts ≡ ts
+back_texts : (ts : List (List ℕ)) → AllByRecursion (AllByRecursion (λ b. b < 256)) ts → map (map back) ts ≡ ts
 back_texts [] h = refl
 back_texts (t ∷ ts) h = ap (λ c. c ∷ map (map back) ts) (back_text t h.0) ∙ ap (λ l. t ∷ l) (back_texts ts h.1)
 
-texts_of-page : (ts : List (List ℕ)) → All (All (λ b. b < 256)) ts → texts_of (page ts) ≡ ts
+texts_of-page : (ts : List (List ℕ)) → AllByRecursion (AllByRecursion (λ b. b < 256)) ts → texts_of (page ts) ≡ ts
 texts_of-page ts h =
     ap texts_of (sym (append-nil (page ts))) ∙ texts_page ts [] ∙ append-nil (map (map back) ts) ∙ back_texts ts h
 
@@ -99,7 +99,7 @@ pub inverse : Inverse
 inverse = record { texts = texts_of-page; pages = λ w p. page_back p }
 
 -- a line more on a page
-module _ (w : List ℕ) (whole : page (texts_of w) ≡ w) (t : List ℕ) (bytes : All (λ b. b < 256) t) where
+module _ (w : List ℕ) (whole : page (texts_of w) ≡ w) (t : List ℕ) (bytes : AllByRecursion (λ b. b < 256) t) where
   same_texts : map (map back) (texts_of w) ≡ texts_of w
   same_texts =
       sym (append-nil _) ∙ sym (texts_page (texts_of w) []) ∙ ap texts_of (append-nil (page (texts_of w)) ∙ whole)
@@ -115,7 +115,7 @@ page_push : (ts : List (List ℕ)) (t : List ℕ) → page (ts ++ t ∷ []) ≡ 
 page_push [] t = append-nil _
 page_push (s ∷ ts) t = ap (λ l. hex s ++ 10 ∷ [] ++ l) (page_push ts t) ∙ sym (append_assoc (hex s ++ 10 ∷ []) (page ts) (hex t ++ 10 ∷ []))
 
-pub page_more : (w : List ℕ) → page (texts_of w) ≡ w → (t : List ℕ) → All (λ b. b < 256) t → page (texts_of (w ++ (hex t ++ 10 ∷ []))) ≡ w ++ (hex t ++ 10 ∷ [])
+pub page_more : (w : List ℕ) → page (texts_of w) ≡ w → (t : List ℕ) → AllByRecursion (λ b. b < 256) t → page (texts_of (w ++ (hex t ++ 10 ∷ []))) ≡ w ++ (hex t ++ 10 ∷ [])
 page_more w whole t bytes =
     ap page (texts_more w whole t bytes) ∙ page_push (texts_of w) t ∙ ap (λ l. l ++ (hex t ++ 10 ∷ [])) whole
 

@@ -1,7 +1,7 @@
 -- Texts as lines of hexadecimal digits, and back. Assumes nothing.
 use Rattle.std.specs.Prelude.{◌≡◌, ℕ, ◌+◌, ◌-◌, ◌*◌, ◌/◌, ◌%◌, ◌<◌, Bool, true, false, cond, ◌||◌, List, [], ◌∷◌, ◌++◌, ◌==◌, nat_lt}
 use Rattle.std.specs.Int.{is_in_range}
-use Rattle.std.specs.List.{AllByRecursion as All}
+use Rattle.std.specs.List.{AllByRecursion}
 
 -- The upper-case hexadecimal digit of a number below 16, and the number of such a digit.
 abbrev pub digit : ℕ → ℕ
@@ -50,5 +50,5 @@ IsPage w = Digits true w
 
 -- Encoding and decoding are inverse: texts of bytes come back from their page, and a page from its texts.
 pub record Inverse : Type 0 where
-  pub texts : (texts : List (List ℕ)) → All (All (λ b. b < 256)) texts → texts_of (page texts) ≡ texts
+  pub texts : (texts : List (List ℕ)) → AllByRecursion (AllByRecursion (λ b. b < 256)) texts → texts_of (page texts) ≡ texts
   pub pages : (w : List ℕ) → IsPage w → page (texts_of w) ≡ w

@@ -1,5 +1,5 @@
 use Rattle.std.proofs.Common.{◌+◌, ◌<◌, ◌≤◌, length, refl, arith, rules}
-use Rattle.std.specs.List.{AllByRecursion as All}
+use Rattle.std.specs.List.{AllByRecursion}
 use Rattle.std.proofs.ByRecursion.{All-from_get_or}
 use Rattle.devices.specs.Buffers.{capacity}
 use Rattle.devices.specs.Hex.{line}
@@ -19,7 +19,7 @@ fits c =
     let text = c.args.text.now in
     omega (arith, c.cost.ensures.value text refl, frames_cost text)
 
-bytes : (c : After-append_line) → All (λ b. b < 256) c.args.text.now
+bytes : (c : After-append_line) → AllByRecursion (λ b. b < 256) c.args.text.now
 bytes c = All-from_get_or (λ b. b < 256) c.args.text.now 0 (λ i _. let h = c.type_inv.text i in search rules)
 
 pub invariant_of-self : goal.invariant_of-self

@@ -3,8 +3,7 @@
 
 # Prove and build cueplay, and play the demonstration scene.
 play:
-	rt check cueplay
-	@cd demo && ../target/bin/cueplay
+	@program=$$(tools/build_cueplay) && cd demo && "$$program"
 
 # All proofs, must-fail edits and tests, from nothing.
 test:

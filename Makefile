@@ -5,6 +5,6 @@
 play:
 	@program=$$(tools/build_cueplay) && cd demo && "$$program"
 
-# All proofs, must-fail edits and tests, from nothing.
+# All proofs, must-fail edits and tests. What passed on this machine and has not changed is not proved again.
 test:
 	.ci/run

@@ -87,9 +87,9 @@ fn print_descriptor(rt: &HostRuntime, descriptor: &Descriptor) -> io::Result<()>
     print_result(rt, descriptor.result())
 }
 
-fn print_result(rt: &HostRuntime, res: ReturnType) -> io::Result<()> {
-    print!(rt; " result {}", char::from(res.letter()))?;
-    match res.number() {
+fn print_result(rt: &HostRuntime, returned: ReturnType) -> io::Result<()> {
+    print!(rt; " result {}", char::from(returned.letter()))?;
+    match returned.number() {
         Some(number) => print!(rt; " {}", number_letter(number)),
         None => Ok(()),
     }

@@ -16,8 +16,7 @@ pub fn check_text(text: &[u8]) -> Result<(), Fault>
     ensures { MatchResult result (λ _. Readable text.now) (λ fault. Refused text.now fault) }
 {
     check_length(text)?;
-    let mut lines = Lines::new(text);
-    while let Some(line) = lines.next_line() {
+    for line in Lines::new(text) {
         check_words(line)?;
     }
     Ok(())

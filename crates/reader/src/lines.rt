@@ -1,4 +1,5 @@
-ghost use Rattle.std.specs.Prelude.{◌≡◌, ◌^◌, ◌<◌, ◌≤◌, length, drop};
+ghost use Rattle.std.specs.Prelude.{◌≡◌, ◌-◌, ◌^◌, ◌<◌, ◌≤◌, length, drop};
+ghost use Rattle.std.specs.Iterator.{at_most};
 ghost use Rattle.reader.specs.Lines.{GivesLine, line_start, lines};
 
 use crate::bytes::{Class, run_end};
@@ -30,11 +31,17 @@ impl<'a> Lines<'a> {
         }
     }
 
+}
+
+impl<'a> Iterator for Lines<'a> {
+    type Item = Line<'a>;
+
+    ghost next_gives = { λ s r t. GivesLine s.text.now s.given r t.given × (t.text ≡ s.text) };
+
+    ghost remaining = { λ s. at_most (length (lines s.text.now) - s.given) };
+
     /// The next line; none once all were given.
-    pub fn next_line(&mut self) -> Option<Line<'a>>
-        ensures gives { GivesLine self.old.text.now self.old.given result self.new.given }
-        ensures text { self.new.text ≡ self.old.text }
-    {
+    fn next(&mut self) -> Option<Line<'a>> {
         let text = self.text;
         let start = self.at;
         if start >= text.len() {

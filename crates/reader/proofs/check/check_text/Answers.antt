@@ -18,9 +18,9 @@ returns-in_err-check_words c =
     let p = err_from_is_err_and c.from_residual-in_err-check_words.result c.from_residual-in_err-check_words.ensures.1 in
     let inv = c.loop-line.invariant in
     let text = c.args.text.now in
-    let n = c.loop-line.lines.given in
+    let n = c.loop-line.line-iterator.given in
     let fault = c.in_err-check_words.ensures in
     let short : TooLong text → ⊥ = λ long. omega (arith, c.in_ok-check_length.ensures) in
-    let is = subst (λ t. IsLine t n c.in-Some.line) inv.0 c.in-Some.ensures.gives.0 in
-    let refused = refused_here text short n c.in-Some.line is inv.1 fault.0 in
+    let is = subst (λ t. IsLine t n c.in-Some.line) inv.same c.in-Some.ensures.steps.0.0 in
+    let refused = refused_here text short n c.in-Some.line is inv.clear fault.0 in
     rw (p.1, p.2) (subst (λ k. Refused text (fault_at UnreadableWord k)) (sym fault.1) refused)

@@ -1,10 +1,11 @@
-use Rattle.std.proofs.Common.{◌≡◌, ◌-◌, length}
-use Rattle.reader.specs.Lines.{lines}
+use Rattle.std.proofs.Common.{◌≡◌}
 use Rattle.reader.proofs.Refusing.{Clear}
 use Rattle.reader.proofs.check.check_text.Given as goal
 
 abbrev pub invariant-loop-line : goal.invariant-loop-line
-invariant-loop-line l = (l.lines.text.now ≡ l.text) × Clear l.text l.lines.given
-
-abbrev pub decreases-loop-line : goal.decreases-loop-line
-decreases-loop-line l = length (lines l.lines.text.now) - l.lines.given
+invariant-loop-line l = record {
+  can : goal.iterator-loop-line.can_next l.line-iterator;
+  finite : goal.iterator-loop-line.is_finite l.line-iterator;
+  same : l.line-iterator.text.now ≡ l.text;
+  clear : Clear l.text l.line-iterator.given
+}

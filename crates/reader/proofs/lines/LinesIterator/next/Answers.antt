@@ -2,12 +2,12 @@ use Rattle.std.proofs.Common.{◌-◌, take, drop, refl, ap, arith, length-drop,
 use Rattle.std.proofs.lemmas.List.{length-take-le}
 use Rattle.reader.specs.Lines.{IsLine}
 use Rattle.reader.proofs.Splitting.{all_given, few_given, next_within, next_bytes, next_left, next_placed}
-use Rattle.reader.proofs.lines.Lines.next_line.Goals as goal
+use Rattle.reader.proofs.lines.LinesIterator.next.Goals as goal
 
-pub returns-then-start-text : goal.returns-then-start-text
-returns-then-start-text c =
+pub returns-then-start-text-clause-steps : goal.returns-then-start-text-clause-steps
+returns-then-start-text-clause-steps c =
     let s = c.args.self.now in
-    record { gives = (all_given s.text.now s.at s.given s.placed s.counted s.left c.if-start-text.true, refl); text = refl }
+    ((all_given s.text.now s.at s.given s.placed s.counted s.left c.if-start-text.true, refl), refl)
 
 pub overflow_add-number : goal.overflow_add-number
 overflow_add-number c =
@@ -40,8 +40,8 @@ invariant_of-self c =
 pub slice_bounds-result-end : goal.slice_bounds-result-end
 slice_bounds-result-end c = search rules
 
-pub returns : goal.returns
-returns c =
+pub returns-clause-steps : goal.returns-clause-steps
+returns-clause-steps c =
     let s = c.args.self.now in
     let end = c.run_end-end.result in
     let ends = c.run_end-end.ensures.value in
@@ -56,4 +56,4 @@ returns c =
       inside = omega (arith, long);
       part = ap (λ k. take k (drop s.at s.text.now)) long;
     } in
-    record { gives = (line, refl); text = refl }
+    ((line, refl), refl)

@@ -1,6 +1,7 @@
 -- What the word reader answers, as words of the line. Assumes nothing.
 use Rattle.std.specs.Prelude.{◌≡◌, ℕ, ◌<◌, ◌≤◌, true, false, List, [], length, take, drop, Some, None, Ok, Err, Option, Result}
-use Rattle.reader.specs.Words.{Piece, piece, directive, label, name, number, quoted, other, every, with_piece}
+use Rattle.std.specs.Option.{option_transpose}
+use Rattle.reader.specs.Words.{Piece, piece, directive, label, name, number, quoted, other, every, with_piece, words_from}
 use Rattle.reader.specs.declared.bytes.Class.TheVariants.{Allowed}
 use Rattle.reader.specs.declared.fault.WordFault.{WordFault}
 use Rattle.reader.specs.declared.line.Line.{Line}
@@ -44,3 +45,14 @@ abbrev pub IsPart : List ℕ → Result (Option Token) WordFault → Type 0
 IsPart line (Ok None) = Unit {0}
 IsPart line (Ok (Some token)) = take (length (part_of token.word)) (drop token.place line) ≡ part_of token.word
 IsPart line (Err fault) = Unit {0}
+
+-- How far the iterator comes with an answer: as far as `Moves` says; or to the line's end, and a fault names the line.
+abbrev pub MovesOn : Words → Result (Option Token) WordFault → Words → Type 0
+MovesOn w (Ok found) v = Moves w (Ok found) v
+MovesOn w (Err fault) v = (v.line ≡ w.line) × ((v.at ≡ length w.line.now) × ((v.number ≡ w.number) × (fault.line ≡ w.number)))
+
+-- What the iterator over a line's words gives: the word or the fault that the word reader answers; none comes after a fault.
+pub record GivesWord (w : Words) (found : Option (Result Token WordFault)) (v : Words) : Type 0 where
+  pub words : words_from w.line.now w.at ≡ answered (option_transpose found) (words_from v.line.now v.at)
+  pub part : IsPart w.line.now (option_transpose found)
+  pub moves : MovesOn w (option_transpose found) v

@@ -36,7 +36,8 @@ pub fn check_length(text: &[u8]) -> Result<(), EntryFault>
 pub fn check_words(line: Line<'_>) -> Result<(), WordFault>
     ensures { MatchResult result (λ _. (words line.entry.bytes.now ≢ None)) (λ fault. (words line.entry.bytes.now ≡ None) × (fault.line ≡ line.entry.number)) }
 {
-    let mut words = Words::of(line)?;
-    while let Some(_token) = words.next_word()? {}
+    for token in Words::of(line)? {
+        token?;
+    }
     Ok(())
 }

@@ -30,7 +30,6 @@ impl<'a> Lines<'a> {
             given: 0,
         }
     }
-
 }
 
 impl<'a> Iterator for Lines<'a> {

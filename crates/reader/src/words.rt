@@ -1,6 +1,7 @@
-ghost use Rattle.std.specs.Prelude.{◌≡◌};
+ghost use Rattle.std.specs.Prelude.{◌≡◌, ◌-◌, length};
+ghost use Rattle.std.specs.Iterator.{at_most};
 ghost use Rattle.reader.specs.Grammar.{Grammatical};
-ghost use Rattle.reader.specs.Tokens.{IsPart, Moves, Opens, answered};
+ghost use Rattle.reader.specs.Tokens.{GivesWord, IsPart, Moves, Opens, answered};
 ghost use Rattle.reader.specs.Words.{words_from};
 
 use crate::bytes::{Class, run_end};
@@ -70,5 +71,22 @@ impl<'a> Words<'a> {
         self.at = end;
         let word = Word::plain(&line[start..end]);
         Ok(Some(Token { word, place: start }))
+    }
+}
+
+impl<'a> Iterator for Words<'a> {
+    type Item = Result<Token<'a>, WordFault>;
+
+    ghost next_gives = { GivesWord };
+
+    ghost remaining = { λ w. at_most (length w.line.now - w.at) };
+
+    /// The next word or the fault, as `next_word` answers. None comes after a fault, since an iterator has to end.
+    fn next(&mut self) -> Option<Result<Token<'a>, WordFault>> {
+        let word = self.next_word();
+        if word.is_err() {
+            self.at = self.line.len();
+        }
+        word.transpose()
     }
 }

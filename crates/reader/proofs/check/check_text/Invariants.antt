@@ -7,5 +7,5 @@ invariant-loop-line l = record {
   can : goal.iterator-loop-line.can_next l.line-iterator;
   finite : goal.iterator-loop-line.is_finite l.line-iterator;
   same : l.line-iterator.text.now ≡ l.text;
-  clear : Clear l.text l.line-iterator.given
+  clear : Clear l.text l.line-iterator.given;
 }

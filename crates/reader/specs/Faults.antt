@@ -1,6 +1,6 @@
 -- A refusal with its layer and line. Assumes nothing.
-use Rattle.std.specs.Prelude.{ℕ}
-use Rattle.reader.specs.Refusals.{layer_of}
+use Rattle.std.specs.Prelude.{ℕ, List, ◌++◌, codes, decimal}
+use Rattle.reader.specs.Refusals.{layer_of, number_of}
 use Rattle.reader.specs.declared.fault.EntryFault.{EntryFault}
 use Rattle.reader.specs.declared.fault.EntryFault.TheVariants.{TextTooLong, TooFewRows}
 use Rattle.reader.specs.declared.fault.Fault.{Fault}
@@ -19,3 +19,7 @@ entry_fault TooFewRows = fault_at refusal.TooFewRows 0
 
 abbrev pub word_fault : WordFault → Fault
 word_fault f = fault_at refusal.UnreadableWord f.line
+
+-- What a fault prints as: the refusal's number, a space and the line.
+abbrev pub fault_text : Fault → List ℕ
+fault_text fault = decimal (number_of fault.refusal) ++ codes " " ++ decimal fault.line

@@ -1,10 +1,12 @@
-ghost use Rattle.std.specs.Prelude.{◌≡◌};
-ghost use Rattle.reader.specs.Faults.{entry_fault, fault_at, word_fault};
+ghost use Rattle.std.specs.Prelude.{◌≡◌, Some};
+ghost use Rattle.reader.specs.Faults.{entry_fault, fault_at, fault_text, word_fault};
 
 use crate::refusal::{Layer, Refusal};
+use std::error::Error;
+use std::fmt;
 
 /// A refusal, with its layer and the line where it arose (0 where it belongs to no line).
-#[derive(Clone, Copy, Debug)]
+#[derive(Clone, Copy, Debug, PartialEq, Eq)]
 pub struct Fault {
     pub refusal: Refusal,
     pub layer: Layer,
@@ -25,14 +27,14 @@ impl Fault {
 }
 
 /// What is refused before the first line is read.
-#[derive(Clone, Copy, Debug)]
+#[derive(Clone, Copy, Debug, PartialEq, Eq)]
 pub enum EntryFault {
     TextTooLong,
     TooFewRows,
 }
 
 /// A line whose bytes or quotes are at fault.
-#[derive(Clone, Copy, Debug)]
+#[derive(Clone, Copy, Debug, PartialEq, Eq)]
 pub struct WordFault {
     pub line: usize,
 }
@@ -55,3 +57,36 @@ impl From<WordFault> for Fault {
         Fault::new(Refusal::UnreadableWord, fault.line)
     }
 }
+
+impl fmt::Display for Fault {
+    ghost output = { λ fault. Some (fault_text fault) };
+
+    /// Writes the refusal's number, a space and the line.
+    fn fmt<W: fmt::Write>(&self, f: &mut fmt::Formatter<W>) -> fmt::Result {
+        write!(f, "{} {}", self.refusal.number(), self.line)
+    }
+}
+
+impl fmt::Display for EntryFault {
+    ghost output = { λ fault. Some (fault_text (entry_fault fault)) };
+
+    /// Writes the fault that it becomes.
+    fn fmt<W: fmt::Write>(&self, f: &mut fmt::Formatter<W>) -> fmt::Result {
+        Fault::from(*self).fmt(f)
+    }
+}
+
+impl fmt::Display for WordFault {
+    ghost output = { λ fault. Some (fault_text (word_fault fault)) };
+
+    /// Writes the fault that it becomes.
+    fn fmt<W: fmt::Write>(&self, f: &mut fmt::Formatter<W>) -> fmt::Result {
+        Fault::from(*self).fmt(f)
+    }
+}
+
+impl Error for Fault {}
+
+impl Error for EntryFault {}
+
+impl Error for WordFault {}

@@ -2,7 +2,7 @@ ghost use Rattle.std.specs.Prelude.{◌≡◌};
 ghost use Rattle.reader.specs.Refusals.{layer_number, layer_of, number_of};
 
 /// Why a text, a scene or a call is refused. The numbers are those that the program prints.
-#[derive(Clone, Copy, Debug)]
+#[derive(Clone, Copy, Debug, PartialEq, Eq)]
 pub enum Refusal {
     /// The text has more than 32,768 bytes.
     TextTooLong = 1,
@@ -35,7 +35,7 @@ pub enum Refusal {
 }
 
 /// Which part of the work a refusal belongs to, in the order in which a scene meets them.
-#[derive(Clone, Copy, Debug)]
+#[derive(Clone, Copy, Debug, PartialEq, Eq)]
 pub enum Layer {
     Entry = 1,
     Word = 2,

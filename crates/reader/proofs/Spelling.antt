@@ -1,39 +1,31 @@
 -- The words that are computed are those of the grammar. Assumes nothing.
-use Rattle.std.proofs.Common.{◌≡◌, ℕ, zero, suc, ◌+◌, ◌<◌, true, false, cond, eqb, List, [], ◌∷◌, ◌++◌, length, get_or, take, drop, Some, None, Option, sym, refl, ap, ◌∙◌, subst, ⊎_elim, add-zero, arith, take-append-drop}
-use Rattle.std.specs.List.{prefix_len}
+use Rattle.std.proofs.Common.{true≢false, ◌≡◌, ℕ, zero, suc, ◌+◌, ◌<◌, Bool, true, false, cond, eqb, List, [], ◌∷◌, ◌++◌, length, get_or, take, drop, Some, None, Option, sym, refl, ap, ◌∙◌, subst, ⊎_elim, add-zero, arith, take-append-drop}
+use Rattle.std.specs.List.{list_all, prefix_len}
 use Rattle.std.proofs.lemmas.List.{take_at, drop_at, drop-drop, drop_more, get_or_at, get_or_past, length-take-le}
 use Rattle.std.proofs.lemmas.List.Sums.{prefix_len-le-length}
 use Rattle.std.proofs.lemmas.Bool.{cases_Bool, cases_eq, cases_lt, cond-true, cond-false, eq-eqb, ne_eqb, eqb-true, not_from_true, not-false}
-use Rattle.reader.specs.Bytes.{is}
+use Rattle.reader.specs.Bytes.{is_blank, is_dark, is_quotable}
 use Rattle.reader.specs.Grammar.{Parted, Reads, ends, comment, blank, quotes, word, Grammatical}
-use Rattle.reader.specs.Words.{Piece, piece, quoted, every, plain, read, with_piece}
-use Rattle.reader.specs.declared.bytes.Class.{Class}
-use Rattle.reader.specs.declared.bytes.Class.TheVariants.{Blank, Dark, Quotable}
+use Rattle.reader.specs.Words.{Piece, piece, quoted, plain, read, with_piece}
 use Rattle.reader.proofs.Reading.{skipped}
 
--- a run goes to the first byte that is not of its class
-abbrev Stops : Class → List ℕ → Type 0
-Stops c [] = Unit {0}
-Stops c (b ∷ s) = is c b ≡ false
+-- a run goes to the first byte that fails the test
+abbrev Stops : (ℕ → Bool) → List ℕ → Type 0
+Stops p [] = Unit {0}
+Stops p (b ∷ s) = p b ≡ false
 
-every-cons : (c : Class) (b : ℕ) (t : List ℕ) → every c (b ∷ t) ≡ true → (is c b ≡ true) × (every c t ≡ true)
-every-cons c b t h =
-    let all : prefix_len (is c) (b ∷ t) ≡ suc (length t) = eqb-true _ _ h in
+run_length : (p : ℕ → Bool) (t s : List ℕ) → list_all p t ≡ true → Stops p s → prefix_len p (t ++ s) ≡ length t
+run_length p [] [] h stop = refl
+run_length p [] (b ∷ s) h stop = cond-false _ _ _ stop
+run_length p (b ∷ t) s h stop =
     ⊎_elim
-    (λ yes. let more = cond-true (is c b) (1 + prefix_len (is c) t) 0 yes in (yes, eq-eqb _ _ (omega arith)))
-    (λ none. let stop = cond-false (is c b) (1 + prefix_len (is c) t) 0 none in absurd (omega arith))
-    (cases_Bool (is c b))
+    (λ yes. cond-true _ _ _ yes ∙ ap (λ n. 1 + n) (run_length p t s (rw yes at h) stop) ∙ omega arith)
+    (λ no. let bad : false ≡ true = rw no at h in absurd (true≢false (sym bad)))
+    (cases_Bool (p b))
 
-run_length : (c : Class) (t s : List ℕ) → every c t ≡ true → Stops c s → prefix_len (is c) (t ++ s) ≡ length t
-run_length c [] [] h stop = refl
-run_length c [] (b ∷ s) h stop = cond-false _ _ _ stop
-run_length c (b ∷ t) s h stop =
-    let parts = every-cons c b t h in
-    cond-true _ _ _ parts.0 ∙ ap (λ n. 1 + n) (run_length c t s parts.1 stop) ∙ omega arith
-
-dark_stops : (s : List ℕ) → Parted s → Stops Dark s
+dark_stops : (s : List ℕ) → Parted s → Stops is_dark s
 dark_stops [] h = tt
-dark_stops (b ∷ s) h = not_from_true (is Blank b) h
+dark_stops (b ∷ s) h = not_from_true (is_blank b) h
 
 -- reading goes on after k bytes
 after : (p k q : ℕ) (t s : List ℕ) → drop k t ≡ s → q ≡ p + k → read p k t ≡ read q 0 s
@@ -45,7 +37,7 @@ complete comment = refl
 complete (blank e r) = cond-true _ _ _ e ∙ complete r
 complete (quotes {p} {t} {s} {ws} e r) =
     let rest = t ++ 34 ∷ s in
-    let long : length t ≡ prefix_len (is Quotable) rest = sym (run_length Quotable t (34 ∷ s) e refl) in
+    let long : length t ≡ prefix_len is_quotable rest = sym (run_length is_quotable t (34 ∷ s) e refl) in
     let closes : eqb (get_or rest (length t) 0) 34 ≡ true = eq-eqb _ 34 (get_or_at t 34 s 0 (length t) refl) in
     let past : drop (length t + 1) rest ≡ s = sym (drop-drop 1 (length t) rest) ∙ ap (drop 1) (drop_at t (34 ∷ s) (length t) refl) in
     let at = λ (n : ℕ). cond (eqb (get_or rest n 0) 34) (with_piece (piece quoted (p + 1) (take n rest)) (read (p + 1) (n + 1) rest)) None in
@@ -55,7 +47,7 @@ complete (quotes {p} {t} {s} {ws} e r) =
     ∙ ap (with_piece (piece quoted (p + 1) t)) (complete r)
 complete (word {p} {b} w s {ws} dark no_comment no_quote e parted r) =
     let rest = w ++ s in
-    let long : length w ≡ prefix_len (is Dark) rest = sym (run_length Dark w s e (dark_stops s parted)) in
+    let long : length w ≡ prefix_len is_dark rest = sym (run_length is_dark w s e (dark_stops s parted)) in
     let at = λ (n : ℕ). with_piece (plain p (b ∷ take n rest)) (read (p + 1) n rest) in
     cond-false _ _ _ dark
     ∙ cond-false _ _ _ (ne_eqb b 59 no_comment)
@@ -69,49 +61,47 @@ with_parts w None all e = let z : ◌≡◌ {A = ℕ} 0 1 = cc in absurd (omega 
 with_parts w (Some ws) all e = (ws, refl, cc)
 
 -- the longest run of a class, and what follows it
-run_every : (c : Class) (s : List ℕ) → every c (take (prefix_len (is c) s) s) ≡ true
-run_every c [] = refl
-run_every c (b ∷ s) =
-    ⊎_elim
-    (λ yes.
-    let more : suc (prefix_len (is c) s) ≡ prefix_len (is c) (b ∷ s) = omega arith ∙ sym (cond-true _ (1 + prefix_len (is c) s) 0 yes) in
-    let t = take (prefix_len (is c) s) s in
-    let all : prefix_len (is c) t ≡ length t = eqb-true _ _ (run_every c s) in
-    let longer = cond-true (is c b) (1 + prefix_len (is c) t) 0 yes in
-    subst (λ n. every c (take n (b ∷ s)) ≡ true) more (eq-eqb _ _ (longer ∙ omega arith)))
-    (λ none. let stop : 0 ≡ prefix_len (is c) (b ∷ s) = sym (cond-false _ _ _ none) in subst (λ n. every c (take n (b ∷ s)) ≡ true) stop refl)
-    (cases_Bool (is c b))
+one_more : {n : ℕ} → 1 + n ≡ suc n
+one_more = omega arith
 
-run_parted : (s : List ℕ) → Parted (drop (prefix_len (is Dark) s) s)
+run_every : (p : ℕ → Bool) (s : List ℕ) → list_all p (take (prefix_len p s) s) ≡ true
+run_every p [] = refl
+run_every p (b ∷ s) =
+    ⊎_elim
+    (λ yes. rw (yes, one_more) (rw yes (run_every p s)))
+    (λ no. rw no refl)
+    (cases_Bool (p b))
+
+run_parted : (s : List ℕ) → Parted (drop (prefix_len is_dark s) s)
 run_parted [] = tt
 run_parted (b ∷ s) =
     ⊎_elim
     (λ yes.
-    let more : suc (prefix_len (is Dark) s) ≡ prefix_len (is Dark) (b ∷ s) = omega arith ∙ sym (cond-true _ (1 + prefix_len (is Dark) s) 0 yes) in
+    let more : suc (prefix_len is_dark s) ≡ prefix_len is_dark (b ∷ s) = omega arith ∙ sym (cond-true _ (1 + prefix_len is_dark s) 0 yes) in
     subst (λ n. Parted (drop n (b ∷ s))) more (run_parted s))
-    (λ none. let stop : 0 ≡ prefix_len (is Dark) (b ∷ s) = sym (cond-false _ _ _ none) in subst (λ n. Parted (drop n (b ∷ s))) stop (not-false (is Blank b) none))
-    (cases_Bool (is Dark b))
+    (λ none. let stop : 0 ≡ prefix_len is_dark (b ∷ s) = sym (cond-false _ _ _ none) in subst (λ n. Parted (drop n (b ∷ s))) stop (not-false (is_blank b) none))
+    (cases_Bool (is_dark b))
 
 -- a reading of all bytes, by the reading of what follows the first word
 module _ (p : ℕ) (s : List ℕ) (ws : List Piece) where
   comment_reads : Some [] ≡ Some ws → Reads p (59 ∷ s) ws
   comment_reads e = let none : [] ≡ ws = cc in subst (Reads p (59 ∷ s)) none comment
 
-  quote_reads : (n : ℕ) → n ≡ prefix_len (is Quotable) s → get_or s n 0 ≡ 34 → (vs : List Piece) → ws ≡ piece quoted (p + 1) (take n s) ∷ vs → Reads (p + 1 + (n + 1)) (drop (n + 1) s) vs → Reads p (34 ∷ s) ws
+  quote_reads : (n : ℕ) → n ≡ prefix_len is_quotable s → get_or s n 0 ≡ 34 → (vs : List Piece) → ws ≡ piece quoted (p + 1) (take n s) ∷ vs → Reads (p + 1 + (n + 1)) (drop (n + 1) s) vs → Reads p (34 ∷ s) ws
   quote_reads n run closes vs all rest =
       let inside : n < length s = ⊎_elim (λ h. h) (λ h. absurd (omega (arith, get_or_past s n 0 h))) (cases_lt n (length s)) in
       let long : length (take n s) ≡ n = length-take-le n s (omega arith) in
       let whole : take n s ++ 34 ∷ drop (n + 1) s ≡ s = ap (λ x. take n s ++ x ∷ drop (n + 1) s) (sym closes) ∙ ap (λ l. take n s ++ l) (sym (drop_more s n 0 inside)) ∙ take-append-drop n s in
-      let texts : every Quotable (take n s) ≡ true = subst (λ k. every Quotable (take k s) ≡ true) (sym run) (run_every Quotable s) in
+      let texts : list_all is_quotable (take n s) ≡ true = subst (λ k. list_all is_quotable (take k s) ≡ true) (sym run) (run_every is_quotable s) in
       let on : Reads (p + (length (take n s) + 2)) (drop (n + 1) s) vs = subst (λ q. Reads q (drop (n + 1) s) vs) (omega arith) rest in
       subst (λ l. Reads p (34 ∷ l) ws) whole (subst (Reads p (34 ∷ (take n s ++ 34 ∷ drop (n + 1) s))) (sym all) (quotes texts on))
 
-  word_reads : (b : ℕ) → is Blank b ≡ false → (b ≡ 59 → ⊥) → (b ≡ 34 → ⊥) → (vs : List Piece) → ws ≡ plain p (b ∷ take (prefix_len (is Dark) s) s) ∷ vs → Reads (p + 1 + prefix_len (is Dark) s) (drop (prefix_len (is Dark) s) s) vs → Reads p (b ∷ s) ws
+  word_reads : (b : ℕ) → is_blank b ≡ false → (b ≡ 59 → ⊥) → (b ≡ 34 → ⊥) → (vs : List Piece) → ws ≡ plain p (b ∷ take (prefix_len is_dark s) s) ∷ vs → Reads (p + 1 + prefix_len is_dark s) (drop (prefix_len is_dark s) s) vs → Reads p (b ∷ s) ws
   word_reads b dark no_comment no_quote vs all rest =
-      let n = prefix_len (is Dark) s in
-      let long : length (take n s) ≡ n = length-take-le n s (prefix_len-le-length (is Dark) s) in
+      let n = prefix_len is_dark s in
+      let long : length (take n s) ≡ n = length-take-le n s (prefix_len-le-length is_dark s) in
       let on : Reads (p + (length (take n s) + 1)) (drop n s) vs = subst (λ q. Reads q (drop n s) vs) (omega arith) rest in
-      subst (λ l. Reads p (b ∷ l) ws) (take-append-drop n s) (subst (Reads p (b ∷ (take n s ++ drop n s))) (sym all) (word (take n s) (drop n s) dark no_comment no_quote (run_every Dark s) (run_parted s) on))
+      subst (λ l. Reads p (b ∷ l) ws) (take-append-drop n s) (subst (Reads p (b ∷ (take n s ++ drop n s))) (sym all) (word (take n s) (drop n s) dark no_comment no_quote (run_every is_dark s) (run_parted s) on))
 
 sound : (s : List ℕ) (p k : ℕ) (ws : List Piece) → read p k s ≡ Some ws → Reads (p + k) (drop k s) ws
 sound [] p zero ws e = let none : [] ≡ ws = cc in subst (Reads (p + 0) []) none ends
@@ -129,7 +119,7 @@ sound (b ∷ s) p zero ws e =
     let second = sym (cond-false _ _ _ (ne_eqb b 59 no_comment)) ∙ first in
     ⊎_elim
     (λ quote.
-    let n = prefix_len (is Quotable) s in
+    let n = prefix_len is_quotable s in
     let third = sym (cond-true _ _ _ (eq-eqb b 34 quote)) ∙ second in
     ⊎_elim
     (λ closes.
@@ -140,10 +130,10 @@ sound (b ∷ s) p zero ws e =
     (λ no_quote.
     let third = sym (cond-false _ _ _ (ne_eqb b 34 no_quote)) ∙ second in
     let parts = with_parts _ _ ws third in
-    word_reads p s ws b dark no_comment no_quote parts.0 parts.2 (sound s (p + 1) (prefix_len (is Dark) s) parts.0 parts.1))
+    word_reads p s ws b dark no_comment no_quote parts.0 parts.2 (sound s (p + 1) (prefix_len is_dark s) parts.0 parts.1))
     (cases_eq b 34))
     (cases_eq b 59))
-    (cases_Bool (is Blank b)))
+    (cases_Bool (is_blank b)))
 
 pub grammatical : Grammatical
 grammatical line ws = (sound line 0 0 ws, complete)

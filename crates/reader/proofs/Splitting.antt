@@ -4,13 +4,12 @@ use Rattle.std.specs.List.{prefix_len}
 use Rattle.std.proofs.lemmas.List.{drop_all, drop-drop, length-take-le, get_or-drop}
 use Rattle.std.proofs.lemmas.List.Sums.{sum_by-cons, sum_by_more}
 use Rattle.std.proofs.lemmas.Bool.{cases_Bool}
-use Rattle.reader.specs.Bytes.{is}
+use Rattle.reader.specs.Bytes.{is_inline}
 use Rattle.reader.specs.Lines.{lines, line_start, onto_first}
-use Rattle.reader.specs.declared.bytes.Class.TheVariants.{Inline}
 
 -- how many bytes the first line has
 abbrev pub first_len : List ℕ → ℕ
-first_len s = prefix_len (is Inline) s
+first_len s = prefix_len is_inline s
 
 -- a byte in front of the first line
 grown : (b n : ℕ) (s : List ℕ) → (b ∷ take n s) ∷ lines (drop (n + 1) s) ≡ take (1 + n) (b ∷ s) ∷ lines (drop (1 + n + 1) (b ∷ s))

@@ -1,15 +1,22 @@
--- The sorts of bytes. Assumes nothing.
+-- The sorts of bytes that a line is read by. Assumes nothing.
 use Rattle.std.specs.Prelude.{ℕ, Bool, not, ◌&&◌, ◌||◌, ◌==◌, nat_le}
-use Rattle.std.specs.Char.{is_ascii_digit, is_ascii_alphabetic}
-use Rattle.reader.specs.declared.bytes.Class.{Class}
-use Rattle.reader.specs.declared.bytes.Class.TheVariants.{Inline, Allowed, Blank, Dark, Quotable, Letter, Digit, Alphanumeric}
 
-abbrev pub is : Class → ℕ → Bool
-is Inline b = not (b == 10)
-is Allowed b = b == 9 || (nat_le 32 b && nat_le b 126)
-is Blank b = b == 9 || b == 32
-is Dark b = not (b == 9 || b == 32)
-is Quotable b = not (b == 9 || b == 34)
-is Letter b = is_ascii_alphabetic b
-is Digit b = is_ascii_digit b
-is Alphanumeric b = is_ascii_alphabetic b || is_ascii_digit b
+-- What stands on a line: any byte but 10.
+abbrev pub is_inline : ℕ → Bool
+is_inline b = not (b == 10)
+
+-- What a line may have: a tab, and 32 to 126.
+abbrev pub is_allowed : ℕ → Bool
+is_allowed b = b == 9 || (nat_le 32 b && nat_le b 126)
+
+-- What parts words: a tab or a space.
+abbrev pub is_blank : ℕ → Bool
+is_blank b = b == 9 || b == 32
+
+-- What a word is made of: any byte that is not blank.
+abbrev pub is_dark : ℕ → Bool
+is_dark b = not (is_blank b)
+
+-- What a quoted text is made of: any byte but a quote and a tab.
+abbrev pub is_quotable : ℕ → Bool
+is_quotable b = not (b == 9 || b == 34)

@@ -1,8 +1,9 @@
 -- What the word reader answers, as words of the line. Assumes nothing.
 use Rattle.std.specs.Prelude.{◌≡◌, ℕ, ◌<◌, ◌≤◌, true, false, List, [], length, take, drop, Some, None, Ok, Err, Option, Result}
+use Rattle.std.specs.List.{list_all}
 use Rattle.std.specs.Option.{option_transpose}
-use Rattle.reader.specs.Words.{Piece, piece, directive, label, name, number, quoted, other, every, with_piece, words_from}
-use Rattle.reader.specs.declared.bytes.Class.TheVariants.{Allowed}
+use Rattle.reader.specs.Bytes.{is_allowed}
+use Rattle.reader.specs.Words.{Piece, piece, directive, label, name, number, quoted, other, with_piece, words_from}
 use Rattle.reader.specs.declared.fault.WordFault.{WordFault}
 use Rattle.reader.specs.declared.line.Line.{Line}
 use Rattle.reader.specs.declared.word.Word.{Word}
@@ -31,8 +32,8 @@ answered (Err fault) rest = None
 
 -- The words of a line are read from its front; or the line has a byte that no line may have.
 abbrev pub Opens : Line → Result Words WordFault → Type 0
-Opens line (Ok w) = (every Allowed line.bytes.now ≡ true) × ((w.line.now ≡ line.bytes.now) × ((w.at ≡ 0) × (w.number ≡ line.number)))
-Opens line (Err fault) = (every Allowed line.bytes.now ≡ false) × (fault.line ≡ line.number)
+Opens line (Ok w) = (list_all is_allowed line.bytes.now ≡ true) × ((w.line.now ≡ line.bytes.now) × ((w.at ≡ 0) × (w.number ≡ line.number)))
+Opens line (Err fault) = (list_all is_allowed line.bytes.now ≡ false) × (fault.line ≡ line.number)
 
 -- How far the reader comes with an answer: past the word; or nowhere, and a fault names the line.
 abbrev pub Moves : Words → Result (Option Token) WordFault → Words → Type 0

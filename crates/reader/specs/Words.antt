@@ -1,9 +1,8 @@
 -- The words of a line. Assumes nothing.
 use Rattle.std.specs.Prelude.{ℕ, zero, suc, ◌+◌, ◌-◌, Bool, cond, ◌&&◌, List, [], ◌∷◌, length, take, drop, Some, None, Option, ◌==◌, nat_le, nat_lt, slice_index}
-use Rattle.std.specs.List.{prefix_len}
-use Rattle.reader.specs.Bytes.{is}
-use Rattle.reader.specs.declared.bytes.Class.{Class}
-use Rattle.reader.specs.declared.bytes.Class.TheVariants.{Allowed, Blank, Dark, Quotable, Letter, Digit, Alphanumeric}
+use Rattle.std.specs.Char.{is_ascii_alphabetic, is_ascii_alphanumeric, is_ascii_digit}
+use Rattle.std.specs.List.{list_all, prefix_len}
+use Rattle.reader.specs.Bytes.{is_allowed, is_blank, is_dark, is_quotable}
 
 pub data Sort : Type 0 where
   directive : Sort
@@ -23,28 +22,24 @@ pub record Piece : Type 0 where
 abbrev pub piece : Sort → ℕ → List ℕ → Piece
 piece sort place part = record { sort = sort; place = place; part = part }
 
--- All bytes are of the class.
-abbrev pub every : Class → List ℕ → Bool
-every class bs = prefix_len (is class) bs == length bs
-
 -- A `.` and then one or more letters.
 abbrev pub is_directive : List ℕ → Bool
-is_directive w = nat_lt 1 (length w) && (slice_index w 0 == 46 && every Letter (drop 1 w))
+is_directive w = nat_lt 1 (length w) && (slice_index w 0 == 46 && list_all is_ascii_alphabetic (drop 1 w))
 
 -- 1 to 32 letters and digits, and then a `:`.
 abbrev pub is_label : List ℕ → Bool
-is_label w = (nat_lt 1 (length w) && nat_le (length w) 33) && (prefix_len (is Alphanumeric) w + 1 == length w && slice_index w (length w - 1) == 58)
+is_label w = (nat_lt 1 (length w) && nat_le (length w) 33) && (list_all is_ascii_alphanumeric (take (length w - 1) w) && slice_index w (length w - 1) == 58)
 
 -- 1 to 32 letters and digits, the first a letter.
 abbrev pub is_name : List ℕ → Bool
-is_name w = (nat_lt 0 (length w) && nat_le (length w) 32) && (is Letter (slice_index w 0) && every Alphanumeric w)
+is_name w = (nat_lt 0 (length w) && nat_le (length w) 32) && (is_ascii_alphabetic (slice_index w 0) && list_all is_ascii_alphanumeric w)
 
 -- An optional minus, and then one or more digits.
 abbrev pub minus : List ℕ → ℕ
 minus w = cond (slice_index w 0 == 45) 1 0
 
 abbrev pub is_number : List ℕ → Bool
-is_number w = nat_lt (minus w) (length w) && every Digit (drop (minus w) w)
+is_number w = nat_lt (minus w) (length w) && list_all is_ascii_digit (drop (minus w) w)
 
 -- A word that is no quoted text, by its looks.
 abbrev pub plain : ℕ → List ℕ → Piece
@@ -65,11 +60,11 @@ abbrev pub read : ℕ → ℕ → List ℕ → Option (List Piece)
 read p k [] = Some []
 read p (suc k) (b ∷ s) = read (p + 1) k s
 read p zero (b ∷ s) =
-    cond (is Blank b) (read (p + 1) 0 s)
+    cond (is_blank b) (read (p + 1) 0 s)
     (cond (b == 59) (Some [])
     (cond (b == 34)
-    (cond (slice_index s (prefix_len (is Quotable) s) == 34) (with_piece (piece quoted (p + 1) (take (prefix_len (is Quotable) s) s)) (read (p + 1) (prefix_len (is Quotable) s + 1) s)) None)
-    (with_piece (plain p (b ∷ take (prefix_len (is Dark) s) s)) (read (p + 1) (prefix_len (is Dark) s) s))))
+    (cond (slice_index s (prefix_len is_quotable s) == 34) (with_piece (piece quoted (p + 1) (take (prefix_len is_quotable s) s)) (read (p + 1) (prefix_len is_quotable s + 1) s)) None)
+    (with_piece (plain p (b ∷ take (prefix_len is_dark s) s)) (read (p + 1) (prefix_len is_dark s) s))))
 
 -- The words of what is left of a line from a place on.
 abbrev pub words_from : List ℕ → ℕ → Option (List Piece)
@@ -77,4 +72,4 @@ words_from line at = read at 0 (drop at line)
 
 -- The words of a line; none where it is refused: where it has a byte that no line may have, or a quote is at fault.
 abbrev pub words : List ℕ → Option (List Piece)
-words line = cond (every Allowed line) (words_from line 0) None
+words line = cond (list_all is_allowed line) (words_from line 0) None

@@ -1,50 +1,34 @@
-ghost use Rattle.std.specs.Prelude.{◌≡◌, ◌+◌, ◌≤◌, length, drop};
+ghost use Rattle.std.specs.Prelude.{◌≡◌, ℕ, Bool, ◌+◌, ◌≤◌, length, drop};
 ghost use Rattle.std.specs.List.{prefix_len};
-ghost use Rattle.reader.specs.Bytes.{is};
+ghost use Rattle.reader.specs.Bytes.{is_allowed, is_blank, is_quotable};
 
-/// The sorts of bytes that a line is read by.
-#[derive(Clone, Copy)]
-pub(crate) enum Class {
-    /// What stands on a line: any byte but 10.
-    Inline,
-    /// What a line may have: a tab, and 32 to 126.
-    Allowed,
-    /// What parts words: a tab or a space.
-    Blank,
-    /// What a word is made of: any byte that is not blank.
-    Dark,
-    /// What a quoted text is made of: any byte but a quote and a tab.
-    Quotable,
-    Letter,
-    Digit,
-    Alphanumeric,
-}
-
-impl Class {
-    pub(crate) fn has(self, b: u8) -> bool
-        ensures { result ≡ is self b }
-    {
-        match self {
-            Class::Inline => b != b'\n',
-            Class::Allowed => b == b'\t' || b >= b' ' && b <= b'~',
-            Class::Blank => b == b'\t' || b == b' ',
-            Class::Dark => b != b'\t' && b != b' ',
-            Class::Quotable => b != b'\t' && b != b'"',
-            Class::Letter => b.is_ascii_alphabetic(),
-            Class::Digit => b.is_ascii_digit(),
-            Class::Alphanumeric => b.is_ascii_alphanumeric(),
-        }
-    }
-}
-
-/// Where the bytes of a class that stand at `from` and after it end.
-pub(crate) fn run_end(bytes: &[u8], from: usize, class: Class) -> usize
-    ensures within { from ≤ length bytes.now → result ≤ length bytes.now }
-    ensures value { result ≡ from + prefix_len (is class) (drop from bytes.now) }
+/// What a line may have: a tab, and 32 to 126.
+pub(crate) fn is_allowed(b: u8) -> bool
+    ensures { result ≡ is_allowed b }
 {
-    let mut end = from;
-    while end < bytes.len() && class.has(bytes[end]) {
-        end += 1;
-    }
-    end
+    matches!(b, b'\t' | b' '..=b'~')
+}
+
+/// What parts words: a tab or a space.
+pub(crate) fn is_blank(b: u8) -> bool
+    ensures { result ≡ is_blank b }
+{
+    matches!(b, b'\t' | b' ')
+}
+
+/// What a quoted text is made of: any byte but a quote and a tab.
+pub(crate) fn is_quotable(b: u8) -> bool
+    ensures { result ≡ is_quotable b }
+{
+    !matches!(b, b'\t' | b'"')
+}
+
+/// Where the bytes that pass a test, at `from` and after it, end.
+pub(crate) fn run_end<F: Fn(u8) -> bool>(bytes: &[u8], from: usize, test: F) -> usize
+    requires { F.IsAlwaysCallable test }
+    ensures after { from ≤ result }
+    ensures within { from ≤ length bytes.now → result ≤ length bytes.now }
+    ensures value { (p : ℕ → Bool) → ((b : ℕ) (r : Bool) → F.post test b r → r ≡ p b) → result ≡ from + prefix_len p (drop from bytes.now) }
+{
+    from + bytes.iter().skip(from).take_while(|b| test(**b)).count()
 }

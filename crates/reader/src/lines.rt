@@ -2,7 +2,7 @@ ghost use Rattle.std.specs.Prelude.{◌≡◌, ◌-◌, ◌^◌, ◌<◌, ◌≤
 ghost use Rattle.std.specs.Iterator.{at_most};
 ghost use Rattle.reader.specs.Lines.{GivesLine, line_start, lines};
 
-use crate::bytes::{Class, run_end};
+use crate::bytes::run_end;
 use crate::line::Line;
 
 /// Gives the lines of a text, one after another.
@@ -46,12 +46,11 @@ impl<'a> Iterator for Lines<'a> {
         if start >= text.len() {
             return None;
         }
-        let end = run_end(text, start, Class::Inline);
-        let number = self.given + 1;
+        let end = run_end(text, start, |b| b != b'\n');
         self.at = end + 1;
-        self.given = number;
+        self.given += 1;
         Some(Line {
-            number,
+            number: self.given,
             place: start,
             bytes: &text[start..end],
         })

@@ -2,8 +2,6 @@ ghost use Rattle.std.specs.Prelude.{◌≡◌, ℕ};
 ghost use Rattle.reader.specs.Tokens.{at_place, part_of};
 ghost use Rattle.reader.specs.Words.{is_directive, is_label, is_name, is_number, plain};
 
-use crate::bytes::{Class, run_end};
-
 /// A word of a scene text, which borrows its part of the text.
 #[derive(Clone, Copy)]
 pub enum Word<'a> {
@@ -27,12 +25,12 @@ impl<'a> Word<'a> {
         ensures { result.now ≡ part_of self.entry }
     {
         match self {
-            Word::Directive(part) => part,
-            Word::Label(part) => part,
-            Word::Name(part) => part,
-            Word::Number(part) => part,
-            Word::Quoted(part) => part,
-            Word::Other(part) => part,
+            Word::Directive(part)
+            | Word::Label(part)
+            | Word::Name(part)
+            | Word::Number(part)
+            | Word::Quoted(part)
+            | Word::Other(part) => part,
         }
     }
 
@@ -57,29 +55,37 @@ impl<'a> Word<'a> {
 fn directive(w: &[u8]) -> bool
     ensures { result ≡ is_directive w.now }
 {
-    w.len() > 1 && w[0] == b'.' && run_end(w, 1, Class::Letter) == w.len()
+    match w {
+        [b'.', letters @ ..] => !letters.is_empty() && letters.iter().all(u8::is_ascii_alphabetic),
+        _ => false,
+    }
 }
 
 fn label(w: &[u8]) -> bool
     ensures { result ≡ is_label w.now }
 {
-    let len = w.len();
-    len > 1 && len <= 33 && run_end(w, 0, Class::Alphanumeric) + 1 == len && w[len - 1] == b':'
+    match w {
+        [name @ .., b':'] => !name.is_empty()
+            && name.len() <= 32
+            && name.iter().all(u8::is_ascii_alphanumeric),
+        _ => false,
+    }
 }
 
 fn name(w: &[u8]) -> bool
     ensures { result ≡ is_name w.now }
 {
-    let len = w.len();
-    len > 0 && len <= 32 && Class::Letter.has(w[0]) && run_end(w, 0, Class::Alphanumeric) == len
+    match w {
+        [first, ..] => first.is_ascii_alphabetic()
+            && w.len() <= 32
+            && w.iter().all(u8::is_ascii_alphanumeric),
+        [] => false,
+    }
 }
 
 fn number(w: &[u8]) -> bool
     ensures { result ≡ is_number w.now }
 {
-    if w.is_empty() {
-        return false;
-    }
-    let from = if w[0] == b'-' { 1 } else { 0 };
-    from < w.len() && run_end(w, from, Class::Digit) == w.len()
+    let digits = w.strip_prefix(b"-").unwrap_or(w);
+    !digits.is_empty() && digits.iter().all(u8::is_ascii_digit)
 }

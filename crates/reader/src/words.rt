@@ -4,7 +4,7 @@ ghost use Rattle.reader.specs.Grammar.{Grammatical};
 ghost use Rattle.reader.specs.Tokens.{GivesWord, IsPart, Moves, Opens, answered};
 ghost use Rattle.reader.specs.Words.{words_from};
 
-use crate::bytes::{Class, run_end};
+use crate::bytes::{is_allowed, is_blank, is_quotable, run_end};
 use crate::fault::WordFault;
 use crate::line::Line;
 use crate::word::Word;
@@ -32,7 +32,7 @@ impl<'a> Words<'a> {
         ensures { Opens line.entry result }
     {
         let bytes = line.bytes;
-        if run_end(bytes, 0, Class::Allowed) < bytes.len() {
+        if !bytes.iter().all(|b| is_allowed(*b)) {
             return Err(WordFault { line: line.number });
         }
         Ok(Words {
@@ -44,6 +44,7 @@ impl<'a> Words<'a> {
 
     /// The next word; none where only blanks and a comment are left.
     /// Refuses a quote that holds a tab or does not close, and alters nothing then.
+    #[tactic(auto, using(crate::proofs::Spelling::grammatical))]
     pub fn next_word(&mut self) -> Result<Option<Token<'a>>, WordFault>
         ensures words { words_from self.old.line.now self.old.at ≡ answered result (words_from self.new.line.now self.new.at) }
         ensures grammar { Grammatical }
@@ -51,26 +52,29 @@ impl<'a> Words<'a> {
         ensures moves { Moves self.old result self.new }
     {
         let line = self.line;
-        let start = run_end(line, self.at, Class::Blank);
-        if start >= line.len() || line[start] == b';' {
-            return Ok(None);
-        }
-        if line[start] == b'"' {
-            let end = run_end(line, start + 1, Class::Quotable);
-            if end >= line.len() || line[end] != b'"' {
-                return Err(WordFault { line: self.number });
+        let start = run_end(line, self.at, is_blank);
+        match line.get(start) {
+            // Blanks run to the line's end.
+            None => Ok(None),
+            // A comment does.
+            Some(b';') => Ok(None),
+            Some(b'"') => {
+                let place = start + 1;
+                let end = run_end(line, place, is_quotable);
+                let Some(b'"') = line.get(end) else {
+                    return Err(WordFault { line: self.number });
+                };
+                self.at = end + 1;
+                let word = Word::Quoted(&line[place..end]);
+                Ok(Some(Token { word, place }))
             }
-            self.at = end + 1;
-            let word = Word::Quoted(&line[start + 1..end]);
-            return Ok(Some(Token {
-                word,
-                place: start + 1,
-            }));
+            Some(_) => {
+                let end = run_end(line, start, |b| !is_blank(b));
+                self.at = end;
+                let word = Word::plain(&line[start..end]);
+                Ok(Some(Token { word, place: start }))
+            }
         }
-        let end = run_end(line, start, Class::Dark);
-        self.at = end;
-        let word = Word::plain(&line[start..end]);
-        Ok(Some(Token { word, place: start }))
     }
 }
 

@@ -1,22 +1,16 @@
-use Rattle.std.proofs.Common.{sym, arith}
-use Rattle.std.proofs.lemmas.List.Sums.{prefix_len-drop_yes, prefix_len-drop_no, prefix_len-drop_all}
-use Rattle.reader.specs.Bytes.{is}
+use Rattle.std.proofs.Common.{◌+◌, drop, ap, ◌∙◌, rules}
+use Rattle.std.proofs.lemmas.Iterator.{YieldsList-from_slice}
+use Rattle.std.proofs.lemmas.Iterator.Adapters.{YieldsList-from_skip}
+use Rattle.std.proofs.lemmas.Iterator.Search.{YieldsList-from_take_while}
+use Rattle.std.proofs.lemmas.Iterator.Consumers.{count_from_yields_List, YieldsList-at}
+use Rattle.std.proofs.lemmas.List.Folds.{length-prefix_len}
 use Rattle.reader.proofs.bytes.run_end.Goals as goal
 
-pub loop-end-preserved : goal.loop-end-preserved
-loop-end-preserved c = (
-  omega (arith, c.loop-end.invariant.0, prefix_len-drop_yes (is c.args.class) c.args.bytes.now c.loop-end.end 0 c.loop-end-test.true (sym c.if-has.ensures)),
-  λ _. omega arith,
-)
-
-pub returns-else-has : goal.returns-else-has
-returns-else-has c = record {
-  within = c.loop-end.invariant.1;
-  value = omega (arith, c.loop-end.invariant.0, prefix_len-drop_no (is c.args.class) c.args.bytes.now c.loop-end.end 0 c.loop-end-test.true (sym c.if-has.ensures));
-}
-
-pub returns-after-loop-end : goal.returns-after-loop-end
-returns-after-loop-end c = record {
-  within = c.loop-end.invariant.1;
-  value = omega (arith, c.loop-end.invariant.0, prefix_len-drop_all (is c.args.class) c.args.bytes.now c.loop-end.end c.loop-end-test.false);
-}
+pub returns-clause-value : goal.returns-clause-value
+returns-clause-value g c = λ p computes.
+    let s = c.args.bytes.now in
+    let n = count_from_yields_List c.take_while.result c.count.result c.count.ensures.ran
+    (YieldsList-from_take_while _ p
+    (YieldsList-at c.take_while.ensures.source (YieldsList-from_skip c.args.from (YieldsList-at c.skip.ensures.source (YieldsList-from_slice s (cc))) c.skip.ensures.count))
+    c.take_while.ensures.closure c.take_while.ensures.done (λ x b q k. (search rules, computes x.now b (search rules)))) in
+    ap (λ k. c.args.from + k) (n ∙ length-prefix_len p (drop c.args.from s))

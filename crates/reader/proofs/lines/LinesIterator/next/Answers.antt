@@ -1,5 +1,6 @@
 use Rattle.std.proofs.Common.{◌-◌, take, drop, refl, ap, arith, length-drop, rules}
 use Rattle.std.proofs.lemmas.List.{length-take-le}
+use Rattle.reader.specs.Bytes.{is_inline}
 use Rattle.reader.specs.Lines.{IsLine}
 use Rattle.reader.proofs.Splitting.{all_given, few_given, next_within, next_bytes, next_left, next_placed}
 use Rattle.reader.proofs.lines.LinesIterator.next.Goals as goal
@@ -9,8 +10,8 @@ returns-then-start-text-clause-steps c =
     let s = c.args.self.now in
     ((all_given s.text.now s.at s.given s.placed s.counted s.left c.if-start-text.true, refl), refl)
 
-pub overflow_add-number : goal.overflow_add-number
-overflow_add-number c =
+pub overflow_add-self-2 : goal.overflow_add-self-2
+overflow_add-self-2 c =
     let s = c.args.self.now in
     let few = few_given s.text.now s.at s.given s.placed s.counted s.left in
     search rules
@@ -26,7 +27,7 @@ pub invariant_of-self : goal.invariant_of-self
 invariant_of-self c =
     let s = c.args.self.now in
     let end = c.run_end-end.result in
-    let ends = c.run_end-end.ensures.value in
+    let ends = c.run_end-end.ensures.value is_inline (λ b r k. search rules) in
     let more = c.if-start-text.false in
     let placed = next_placed s.text.now s.at s.given s.placed s.counted s.left more end ends (c.run_end-end.ensures.within (omega arith)) in
     let within = next_within s.text.now s.at s.given s.placed s.counted s.left more end ends in
@@ -37,14 +38,11 @@ invariant_of-self c =
       left = next_left s.text.now s.at s.given s.placed s.counted s.left more end ends;
     }
 
-pub slice_bounds-result-end : goal.slice_bounds-result-end
-slice_bounds-result-end c = search rules
-
 pub returns-clause-steps : goal.returns-clause-steps
 returns-clause-steps c =
     let s = c.args.self.now in
     let end = c.run_end-end.result in
-    let ends = c.run_end-end.ensures.value in
+    let ends = c.run_end-end.ensures.value is_inline (λ b r k. search rules) in
     let more = c.if-start-text.false in
     let inside = c.run_end-end.ensures.within (omega arith) in
     let long = length-take-le (end - s.at) (drop s.at s.text.now) (omega (arith, length-drop s.at s.text.now)) in

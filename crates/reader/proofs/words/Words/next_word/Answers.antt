@@ -1,71 +1,74 @@
-use Rattle.std.proofs.Common.{◌≡◌, ◌+◌, ◌-◌, length, get_or, take, drop, sym, refl, ap, ◌∙◌, subst, arith, length-drop}
+use Rattle.std.proofs.Common.{◌≡◌, ◌<◌, ◌≤◌, length, get_or, take, drop, sym, ap, ◌∙◌, subst, arith, rules}
 use Rattle.std.proofs.lemmas.List.{get_or_past}
+use Rattle.reader.specs.Bytes.{is_blank, is_dark, is_quotable}
 use Rattle.reader.specs.Words.{with_piece, words_from}
-use Rattle.reader.proofs.Fronts.{front_take, plain_part}
+use Rattle.reader.proofs.Fronts.{plain_part}
 use Rattle.reader.proofs.Reading.{nothing_left, comment_left, quote_open, quote_closed, some_word, plain_word}
-use Rattle.reader.proofs.Spelling.{grammatical}
 use Rattle.reader.proofs.words.Words.next_word.Goals as goal
-use Rattle.reader.proofs.words.Words.next_word.Goals.{then-start-line-via-then-start-line, then-start-line-via-else-start-line+then-line-start-eq59, then-end-line-via-then-end-line, then-end-line-via-else-end-line+then-line-end-ne34}
+use Rattle.reader.proofs.words.Words.next_word.Goals.{in_default-via-in-Some+in_default, in_default-via-in_default}
 
-pub returns-then-start-line : goal.returns-then-start-line
-returns-then-start-line c =
+pub returns-in-None-clause-words : goal.returns-in-None-clause-words
+returns-in-None-clause-words c =
+    let s = c.args.self.now in
+    nothing_left s.line.now s.at c.run_end-start.result (c.run_end-start.ensures.value is_blank (λ b r h. h)) (search rules)
+
+pub returns-in-Some-eq59-clause-words : goal.returns-in-Some-eq59-clause-words
+returns-in-Some-eq59-clause-words c =
     let s = c.args.self.now in
     let start = c.run_end-start.result in
-    let starts = c.run_end-start.ensures.value in
-    record {
-      words = elim c.then-start-line.branch [
-        | then-start-line-via-then-start-line w ↦ nothing_left s.line.now s.at start starts w.if-start-line.true
-        | then-start-line-via-else-start-line+then-line-start-eq59 w ↦ comment_left s.line.now s.at start starts w.if-start-line.false w.if-line-start-eq59.true
-      ];
-      grammar = grammatical;
-      part = tt;
-      moves = refl;
-    }
+    let more : start < length s.line.now = search rules in
+    let opens : get_or s.line.now start 0 ≡ 59 = search rules in
+    comment_left s.line.now s.at c.run_end-start.result (c.run_end-start.ensures.value is_blank (λ b r h. h)) more opens
 
-pub returns-then-end-line : goal.returns-then-end-line
-returns-then-end-line c =
+pub returns-in_default-clause-words : goal.returns-in_default-clause-words
+returns-in_default-clause-words c =
     let s = c.args.self.now in
     let start = c.run_end-start.result in
-    let starts = c.run_end-start.ensures.value in
     let end = c.run_end-end.result in
+    let more : c.run_end-start.result < length s.line.now = search rules in
+    let opens : get_or s.line.now c.run_end-start.result 0 ≡ 34 = search rules in
     let open_at : (get_or s.line.now end 0 ≡ 34 → ⊥) =
-    elim c.then-end-line.branch [
-      | then-end-line-via-then-end-line w ↦ (λ e. let past = get_or_past s.line.now end 0 w.if-end-line.true in omega arith)
-      | then-end-line-via-else-end-line+then-line-end-ne34 w ↦ w.if-line-end-ne34.true
+    elim c.in_default.branch [
+      | in_default-via-in-Some+in_default w ↦ search rules
+      | in_default-via-in_default w ↦ (λ e. let past : length s.line.now ≤ end = search rules in let none = get_or_past s.line.now end 0 past in omega arith)
     ] in
-    record {
-      words = quote_open s.line.now s.at start starts c.if-start-line.false c.if-line-start-eq34.true end c.run_end-end.ensures.value open_at;
-      grammar = grammatical;
-      part = tt;
-      moves = (refl, refl);
-    }
+    quote_open s.line.now s.at start (c.run_end-start.ensures.value is_blank (λ b r h. h)) more opens
+    end (c.run_end-end.ensures.value is_quotable (λ b r h. h)) open_at
 
-pub returns-then-line-start-eq34 : goal.returns-then-line-start-eq34
-returns-then-line-start-eq34 c =
+pub returns-in-Some-eq34-get-clause-words : goal.returns-in-Some-eq34-get-clause-words
+returns-in-Some-eq34-get-clause-words c =
+    let s = c.args.self.now in
+    let more : c.run_end-start.result < length s.line.now = search rules in
+    let opens : get_or s.line.now c.run_end-start.result 0 ≡ 34 = search rules in
+    let closes : get_or s.line.now c.run_end-end.result 0 ≡ 34 = search rules in
+    quote_closed s.line.now s.at c.run_end-start.result (c.run_end-start.ensures.value is_blank (λ b r h. h)) more opens
+    c.run_end-end.result (c.run_end-end.ensures.value is_quotable (λ b r h. h)) closes
+
+pub returns-in-Some-clause-words : goal.returns-in-Some-clause-words
+returns-in-Some-clause-words c =
     let s = c.args.self.now in
     let start = c.run_end-start.result in
-    let starts = c.run_end-start.ensures.value in
-    let end = c.run_end-end.result in
-    let ends = c.run_end-end.ensures.value in
-    record {
-      words = quote_closed s.line.now s.at start starts c.if-start-line.false c.if-line-start-eq34.true end ends c.if-line-end-ne34.false;
-      grammar = grammatical;
-      part = front_take (end - (start + 1)) (drop (start + 1) s.line.now) (omega (arith, c.if-end-line.false, length-drop (start + 1) s.line.now));
-      moves = (omega arith, (omega (arith, c.if-end-line.false), (refl, refl)));
-    }
+    let end = c.run_end-end-in-Some.result in
+    let more : start < length s.line.now = search rules in
+    let no_comment : get_or s.line.now start 0 ≡ 59 → ⊥ = search rules in
+    let no_quote : get_or s.line.now start 0 ≡ 34 → ⊥ = search rules in
+    plain_word s.line.now s.at start (c.run_end-start.ensures.value is_blank (λ b r h. h)) more no_comment no_quote
+    end (c.run_end-end-in-Some.ensures.value is_dark (λ b r h. search rules))
+    ∙ ap (λ w. with_piece w (words_from s.line.now end)) (sym (c.plain-word.ensures start))
 
-pub returns : goal.returns
-returns c =
+pub returns-in-Some-clause-part : goal.returns-in-Some-clause-part
+returns-in-Some-clause-part c =
     let s = c.args.self.now in
     let start = c.run_end-start.result in
-    let starts = c.run_end-start.ensures.value in
-    let end = c.run_end-end-2.result in
-    let ends = c.run_end-end-2.ensures.value in
-    record {
-      words =
-          plain_word s.line.now s.at start starts c.if-start-line.false c.if-line-start-eq59.false c.if-line-start-eq34.false end ends
-          ∙ ap (λ w. with_piece w (words_from s.line.now end)) (sym (c.plain-word.ensures start));
-      grammar = grammatical;
-      part = subst (λ w. take (length w.part) (drop start s.line.now) ≡ w.part) (sym (c.plain-word.ensures 0)) (plain_part s.line.now start end 0);
-      moves = (omega (arith, some_word s.line.now s.at start starts c.if-start-line.false c.if-line-start-eq59.false c.if-line-start-eq34.false end ends), (c.run_end-end-2.ensures.within (omega arith), (refl, refl)));
-    }
+    subst (λ w. take (length w.part) (drop start s.line.now) ≡ w.part) (sym (c.plain-word.ensures 0)) (plain_part s.line.now start c.run_end-end-in-Some.result 0)
+
+pub returns-in-Some-clause-moves : goal.returns-in-Some-clause-moves
+returns-in-Some-clause-moves c =
+    let s = c.args.self.now in
+    let start = c.run_end-start.result in
+    let more : start < length s.line.now = search rules in
+    let no_comment : get_or s.line.now start 0 ≡ 59 → ⊥ = search rules in
+    let no_quote : get_or s.line.now start 0 ≡ 34 → ⊥ = search rules in
+    let some = some_word s.line.now s.at start (c.run_end-start.ensures.value is_blank (λ b r h. h)) more no_comment no_quote
+    c.run_end-end-in-Some.result (c.run_end-end-in-Some.ensures.value is_dark (λ b r h. search rules)) in
+    search rules

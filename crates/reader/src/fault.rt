@@ -81,7 +81,7 @@ impl fmt::Display for WordFault {
 
     /// Writes the fault that it becomes.
     fn fmt<W: fmt::Write>(&self, f: &mut fmt::Formatter<W>) -> fmt::Result {
-        Fault::from(*self).fmt(f)
+        write!(f, "{}", Fault::from(*self))
     }
 }
 

@@ -28,8 +28,7 @@ pub(crate) fn print_all(rt: &HostRuntime) -> io::Result<()> {
 
 fn print_lines(rt: &HostRuntime, text: &[u8]) -> io::Result<()> {
     println!(rt; "lines [{}]", text.escape_ascii())?;
-    let mut lines = Lines::new(text);
-    while let Some(line) = lines.next_line() {
+    for line in Lines::new(text) {
         println!(rt;
             "line {} {} {} [{}]",
             line.number,

@@ -53,9 +53,8 @@ pub(crate) fn print_captions(rt: &HostRuntime, text: &[u8]) -> io::Result<()> {
     if let Err(fault) = check_text(text) {
         return print_fault(rt, fault);
     }
-    let mut lines = Lines::new(text);
     let mut count = 0usize;
-    while let Some(line) = lines.next_line() {
+    for line in Lines::new(text) {
         count = count.saturating_add(print_quotes(rt, line)?);
     }
     println!(rt; "captions {count}")
@@ -64,8 +63,8 @@ pub(crate) fn print_captions(rt: &HostRuntime, text: &[u8]) -> io::Result<()> {
 /// Prints the quoted texts of a line, and answers how many there are.
 fn print_quotes(rt: &HostRuntime, line: Line<'_>) -> io::Result<usize> {
     let mut count = 0usize;
-    if let Ok(mut words) = Words::of(line) {
-        while let Ok(Some(token)) = words.next_word() {
+    if let Ok(words) = Words::of(line) {
+        for token in words.filter_map(Result::ok) {
             if let Word::Quoted(caption) = token.word {
                 println!(rt; "caption [{}]", caption.escape_ascii())?;
                 count = count.saturating_add(1);

@@ -1,6 +1,6 @@
 //! The words of each line: their sorts, places and parts.
 use crate::report::print_fault;
-use reader::{Lines, Word, Words};
+use reader::{Lines, Token, Word, Words};
 use std::io;
 
 const TEXTS: [&[u8]; 31] = [
@@ -56,8 +56,7 @@ pub(crate) fn print_all(rt: &HostRuntime) -> io::Result<()> {
 /// Prints the words of each line, and the fault of a line that is refused.
 pub(crate) fn print_words(rt: &HostRuntime, text: &[u8]) -> io::Result<()> {
     println!(rt; "words [{}]", text.escape_ascii())?;
-    let mut lines = Lines::new(text);
-    while let Some(line) = lines.next_line() {
+    for line in Lines::new(text) {
         match Words::of(line) {
             Ok(words) => print_each(rt, words)?,
             Err(fault) => print_fault(rt, fault.into())?,
@@ -67,18 +66,23 @@ pub(crate) fn print_words(rt: &HostRuntime, text: &[u8]) -> io::Result<()> {
 }
 
 /// Prints the words that are left, up to the first fault.
-fn print_each(rt: &HostRuntime, mut words: Words<'_>) -> io::Result<()> {
-    loop {
-        match words.next_word() {
-            Ok(Some(token)) => print_word(rt, token.word, token.place)?,
-            Ok(None) => return Ok(()),
-            Err(fault) => return print_fault(rt, fault.into()),
+fn print_each(rt: &HostRuntime, words: Words<'_>) -> io::Result<()> {
+    for token in words {
+        match token {
+            Ok(token) => print_word(rt, token)?,
+            Err(fault) => print_fault(rt, fault.into())?,
         }
     }
+    Ok(())
 }
 
-fn print_word(rt: &HostRuntime, word: Word<'_>, place: usize) -> io::Result<()> {
-    println!(rt; "{} {} [{}]", sort(word), place, word.part().escape_ascii())
+fn print_word(rt: &HostRuntime, token: Token<'_>) -> io::Result<()> {
+    println!(rt;
+        "{} {} [{}]",
+        sort(token.word),
+        token.place,
+        token.word.part().escape_ascii()
+    )
 }
 
 fn sort(word: Word<'_>) -> &'static str {

@@ -1,4 +1,6 @@
-ghost use Rattle.std.specs.Prelude.{◌≡◌, ℕ};
+ghost use Rattle.std.specs.Prelude.{◌≡◌, ◌-◌, ◌&&◌, ℕ, nat_le, length, take, true, false, MatchOption};
+ghost use Rattle.std.specs.Char.{is_ascii_alphanumeric};
+ghost use Rattle.std.specs.List.{list_all};
 ghost use Rattle.reader.specs.Tokens.{at_place, part_of};
 ghost use Rattle.reader.specs.Words.{is_directive, is_label, is_name, is_number, plain};
 
@@ -38,13 +40,13 @@ impl<'a> Word<'a> {
     pub(crate) fn plain(bytes: &'a [u8]) -> Word<'a>
         ensures { (p : ℕ) → at_place p result ≡ plain p bytes.now }
     {
-        if directive(bytes) {
+        if is_directive(bytes) {
             Word::Directive(bytes)
-        } else if label(bytes) {
-            Word::Label(&bytes[0..bytes.len() - 1])
-        } else if name(bytes) {
+        } else if let Some(name) = label_name(bytes) {
+            Word::Label(name)
+        } else if is_name(bytes) {
             Word::Name(bytes)
-        } else if number(bytes) {
+        } else if is_number(bytes) {
             Word::Number(bytes)
         } else {
             Word::Other(bytes)
@@ -52,7 +54,7 @@ impl<'a> Word<'a> {
     }
 }
 
-fn directive(w: &[u8]) -> bool
+fn is_directive(w: &[u8]) -> bool
     ensures { result ≡ is_directive w.now }
 {
     match w {
@@ -61,29 +63,33 @@ fn directive(w: &[u8]) -> bool
     }
 }
 
-fn label(w: &[u8]) -> bool
-    ensures { result ≡ is_label w.now }
+/// The label without its `:`, if it is one.
+fn label_name(w: &[u8]) -> Option<&[u8]>
+    ensures { MatchOption result (is_label w.now ≡ false) (λ name. (is_label w.now ≡ true) × (name.now ≡ take (length w.now - 1) w.now)) }
 {
     match w {
-        [name @ .., b':'] => !name.is_empty()
-            && name.len() <= 32
-            && name.iter().all(u8::is_ascii_alphanumeric),
-        _ => false,
+        [name @ .., b':'] if is_short(name) => Some(name),
+        _ => None,
     }
 }
 
-fn name(w: &[u8]) -> bool
+fn is_name(w: &[u8]) -> bool
     ensures { result ≡ is_name w.now }
 {
     match w {
-        [first, ..] => first.is_ascii_alphabetic()
-            && w.len() <= 32
-            && w.iter().all(u8::is_ascii_alphanumeric),
+        [first, ..] => first.is_ascii_alphabetic() && is_short(w),
         [] => false,
     }
 }
 
-fn number(w: &[u8]) -> bool
+/// Whether these are 1 to 32 letters and digits.
+fn is_short(w: &[u8]) -> bool
+    ensures { result ≡ (nat_le 1 (length w.now) && nat_le (length w.now) 32) && list_all is_ascii_alphanumeric w.now }
+{
+    !w.is_empty() && w.len() <= 32 && w.iter().all(u8::is_ascii_alphanumeric)
+}
+
+fn is_number(w: &[u8]) -> bool
     ensures { result ≡ is_number w.now }
 {
     let digits = w.strip_prefix(b"-").unwrap_or(w);

@@ -1,5 +1,5 @@
 /// A line of a scene text, without the byte 10 that ends it.
-#[derive(Clone, Copy)]
+#[derive(Clone, Copy, Debug, PartialEq, Eq)]
 pub struct Line<'a> {
     /// Its number, counted from 1.
     pub number: usize,

@@ -5,7 +5,7 @@ ghost use Rattle.reader.specs.Tokens.{at_place, part_of};
 ghost use Rattle.reader.specs.Words.{is_directive, is_label, is_name, is_number, plain};
 
 /// A word of a scene text, which borrows its part of the text.
-#[derive(Clone, Copy)]
+#[derive(Clone, Copy, Debug, PartialEq, Eq)]
 pub enum Word<'a> {
     /// A `.` and then one or more letters.
     Directive(&'a [u8]),

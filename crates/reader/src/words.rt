@@ -10,7 +10,7 @@ use crate::line::Line;
 use crate::word::Word;
 
 /// A word, and where its part begins in its line, counted from 0.
-#[derive(Clone, Copy)]
+#[derive(Clone, Copy, Debug, PartialEq, Eq)]
 pub struct Token<'a> {
     pub word: Word<'a>,
     pub place: usize,

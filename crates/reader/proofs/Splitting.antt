@@ -6,6 +6,7 @@ use Rattle.std.proofs.lemmas.List.Sums.{sum_by-cons, sum_by_more}
 use Rattle.std.proofs.lemmas.Bool.{cases_Bool}
 use Rattle.reader.specs.Bytes.{is_inline}
 use Rattle.reader.specs.Lines.{lines, line_start, onto_first}
+use Rattle.reader.specs.declared.lines.Lines.{Lines}
 
 -- how many bytes the first line has
 abbrev pub first_len : List ℕ → ℕ
@@ -32,35 +33,41 @@ pub lines_take : (ls : List (List ℕ)) → length ls ≤ sum_by (λ l. length l
 lines_take [] = omega arith
 lines_take (l ∷ ls) = omega (arith, lines_take ls, sum_by-cons (λ l. length l + 1) l ls)
 
-module _ (text : List ℕ) (at n : ℕ) (placed : at ≡ line_start text n) (counted : n ≤ length (lines text)) (left : drop n (lines text) ≡ lines (drop at text)) where
-  pub all_given : length text ≤ at → n ≡ length (lines text)
+-- the next line, by what holds of each reader of lines
+module _ (s : Lines) where
+  pub all_given : length s.text.now ≤ s.at → s.given ≡ length (lines s.text.now)
   all_given past =
-      let none : length (drop n (lines text)) ≡ 0 = ap length (left ∙ ap lines (drop_all at text past)) in
-      omega (arith, length-drop n (lines text))
+      let none : length (drop s.given (lines s.text.now)) ≡ 0 = ap length (s.left ∙ ap lines (drop_all s.at s.text.now past)) in
+      let given = s.counted in
+      omega (arith, length-drop s.given (lines s.text.now))
 
-  pub few_given : n ≤ at
-  few_given = omega (arith, lines_take (take n (lines text)), length-take-le n (lines text) counted)
+  pub few_given : s.given ≤ s.at
+  few_given =
+      let placed = s.placed in
+      omega (arith, lines_take (take s.given (lines s.text.now)), length-take-le s.given (lines s.text.now) s.counted)
 
-  module _ (more : at < length text) (end : ℕ) (ends : end ≡ at + first_len (drop at text)) where
-    next_len : end - at ≡ first_len (drop at text)
+  module _ (more : s.at < length s.text.now) (end : ℕ) (ends : end ≡ s.at + first_len (drop s.at s.text.now)) where
+    next_len : end - s.at ≡ first_len (drop s.at s.text.now)
     next_len = omega arith
 
-    parted : drop n (lines text) ≡ take (end - at) (drop at text) ∷ lines (drop (end + 1) text)
+    parted : drop s.given (lines s.text.now) ≡ take (end - s.at) (drop s.at s.text.now) ∷ lines (drop (end + 1) s.text.now)
     parted =
-        let some : 0 < length (drop at text) = omega (arith, length-drop at text) in
-        let past : drop (first_len (drop at text) + 1) (drop at text) ≡ drop (end + 1) text = drop-drop (first_len (drop at text) + 1) at text ∙ ap (λ k. drop k text) (omega arith) in
-        left ∙ lines_first (drop at text) some ∙ (λ i. take (sym next_len i) (drop at text) ∷ lines (past i))
+        let rest = drop s.at s.text.now in
+        let some : 0 < length rest = omega (arith, length-drop s.at s.text.now) in
+        let past : drop (first_len rest + 1) rest ≡ drop (end + 1) s.text.now = drop-drop (first_len rest + 1) s.at s.text.now ∙ ap (λ k. drop k s.text.now) (omega arith) in
+        s.left ∙ lines_first rest some ∙ (λ i. take (sym next_len i) rest ∷ lines (past i))
 
-    pub next_within : n < length (lines text)
-    next_within = omega (arith, length-drop n (lines text), ap length parted)
+    pub next_within : s.given < length (lines s.text.now)
+    next_within = omega (arith, length-drop s.given (lines s.text.now), ap length parted)
 
-    pub next_bytes : take (end - at) (drop at text) ≡ get_or (lines text) n []
-    next_bytes = sym (ap (λ k. get_or (lines text) k []) (sym (add-zero n)) ∙ sym (get_or-drop n (lines text) 0 []) ∙ ap (λ l. get_or l 0 []) parted)
+    pub next_bytes : take (end - s.at) (drop s.at s.text.now) ≡ get_or (lines s.text.now) s.given []
+    next_bytes = sym (ap (λ k. get_or (lines s.text.now) k []) (sym (add-zero s.given)) ∙ sym (get_or-drop s.given (lines s.text.now) 0 []) ∙ ap (λ l. get_or l 0 []) parted)
 
-    pub next_left : drop (n + 1) (lines text) ≡ lines (drop (end + 1) text)
-    next_left = sym (drop-drop 1 n (lines text)) ∙ ap (drop 1) parted
+    pub next_left : drop (s.given + 1) (lines s.text.now) ≡ lines (drop (end + 1) s.text.now)
+    next_left = sym (drop-drop 1 s.given (lines s.text.now)) ∙ ap (drop 1) parted
 
-    pub next_placed : end ≤ length text → end + 1 ≡ line_start text (n + 1)
+    pub next_placed : end ≤ length s.text.now → end + 1 ≡ line_start s.text.now (s.given + 1)
     next_placed within =
-        let here : length (get_or (lines text) n []) ≡ end - at = ap length (sym next_bytes) ∙ length-take-le (end - at) (drop at text) (omega (arith, length-drop at text)) in
-        omega (arith, sum_by_more (λ l. length l + 1) (lines text) n [] next_within)
+        let placed = s.placed in
+        let here : length (get_or (lines s.text.now) s.given []) ≡ end - s.at = ap length (sym next_bytes) ∙ length-take-le (end - s.at) (drop s.at s.text.now) (omega (arith, length-drop s.at s.text.now)) in
+        omega (arith, sum_by_more (λ l. length l + 1) (lines s.text.now) s.given [] next_within)

@@ -8,12 +8,12 @@ use Rattle.reader.proofs.lines.LinesIterator.next.Goals as goal
 pub returns-then-start-text-clause-steps : goal.returns-then-start-text-clause-steps
 returns-then-start-text-clause-steps c =
     let s = c.args.self.now in
-    ((all_given s.text.now s.at s.given s.placed s.counted s.left c.if-start-text.true, refl), refl)
+    ((all_given s c.if-start-text.true, refl), refl)
 
 pub overflow_add-self-2 : goal.overflow_add-self-2
 overflow_add-self-2 c =
     let s = c.args.self.now in
-    let few = few_given s.text.now s.at s.given s.placed s.counted s.left in
+    let few = few_given s in
     search rules
 
 pub overflow_add-self : goal.overflow_add-self
@@ -29,13 +29,13 @@ invariant_of-self c =
     let end = c.run_end-end.result in
     let ends = c.run_end-end.ensures.value is_inline (λ b r k. search rules) in
     let more = c.if-start-text.false in
-    let placed = next_placed s.text.now s.at s.given s.placed s.counted s.left more end ends (c.run_end-end.ensures.within (omega arith)) in
-    let within = next_within s.text.now s.at s.given s.placed s.counted s.left more end ends in
+    let placed = next_placed s more end ends (c.run_end-end.ensures.within (omega arith)) in
+    let within = next_within s more end ends in
     record {
       short = s.short;
       placed = placed;
       counted = omega arith;
-      left = next_left s.text.now s.at s.given s.placed s.counted s.left more end ends;
+      left = next_left s more end ends;
     }
 
 pub returns-clause-steps : goal.returns-clause-steps
@@ -47,10 +47,10 @@ returns-clause-steps c =
     let inside = c.run_end-end.ensures.within (omega arith) in
     let long = length-take-le (end - s.at) (drop s.at s.text.now) (omega (arith, length-drop s.at s.text.now)) in
     let line : IsLine s.text.now s.given _ = record {
-      within = next_within s.text.now s.at s.given s.placed s.counted s.left more end ends;
+      within = next_within s more end ends;
       number = refl;
       place = s.placed;
-      bytes = next_bytes s.text.now s.at s.given s.placed s.counted s.left more end ends;
+      bytes = next_bytes s more end ends;
       inside = omega (arith, long);
       part = ap (λ k. take k (drop s.at s.text.now)) long;
     } in

@@ -12,9 +12,6 @@ abbrev pub Clear : List ℕ → ℕ → Type 0
 Clear text n = (k : ℕ) → k < n → words (get_or (lines text) k []) ≡ None → ⊥
 
 module _ (text : List ℕ) (short : TooLong text → ⊥) where
-  pub all_readable : Clear text (length (lines text)) → Readable text
-  all_readable clear = record { short = short; clear = λ n u. clear (n - 1) (omega (arith, u.0, u.1)) u.2 }
-
   pub refused_here : (n : ℕ) (line : Line) → IsLine text n line → Clear text n → words line.bytes.now ≡ None → Refused text (fault_at UnreadableWord line.number)
   refused_here n line is clear none =
       let here : words (get_or (lines text) (n + 1 - 1) []) ≡ None = ap (λ k. words (get_or (lines text) k [])) (omega arith) ∙ ap words (sym is.bytes) ∙ none in

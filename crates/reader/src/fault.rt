@@ -6,6 +6,7 @@ use std::error::Error;
 use std::fmt;
 
 /// A refusal, with its layer and the line where it arose (0 where it belongs to no line).
+// That the layer is the refusal's own is no ghost field: the fields are public, and it would ask a proof of whoever fills them.
 #[derive(Clone, Copy, Debug, PartialEq, Eq)]
 pub struct Fault {
     pub refusal: Refusal,

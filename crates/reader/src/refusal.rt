@@ -48,6 +48,7 @@ pub enum Layer {
 
 impl Refusal {
     /// The number that is printed.
+    // No `From`, here and at `Layer`: `u8::from(refusal)` would not say what the byte is.
     pub fn number(self) -> u8
         ensures { result ≡ number_of self }
     {

@@ -44,6 +44,7 @@ impl<'a> Words<'a> {
 
     /// The next word; none where only blanks and a comment are left.
     /// Refuses a quote that holds a tab or does not close, and alters nothing then.
+    // Beside the iterator, which has to end: it could not alter nothing, since it would meet the same fault again and again.
     #[tactic(auto, using(crate::proofs::Spelling::grammatical))]
     pub fn next_word(&mut self) -> Result<Option<Token<'a>>, WordFault>
         ensures words { words_from self.old.line.now self.old.at ≡ answered result (words_from self.new.line.now self.new.at) }
@@ -85,7 +86,7 @@ impl<'a> Iterator for Words<'a> {
 
     ghost remaining = { λ w. at_most (length w.line.now - w.at) };
 
-    /// The next word or the fault, as `next_word` answers. None comes after a fault, since an iterator has to end.
+    /// The next word, or the fault that `next_word` answers, after which no more come.
     fn next(&mut self) -> Option<Result<Token<'a>, WordFault>> {
         let word = self.next_word();
         if word.is_err() {

@@ -2,7 +2,7 @@
 use reader::Lines;
 use std::io;
 
-const TEXTS: [&[u8]; 10] = [
+const TEXTS: &[&[u8]] = &[
     // no line
     b"",
     // empty lines

@@ -2,7 +2,7 @@
 use crate::words::print_words;
 use std::io;
 
-const TEXTS: [&[u8]; 18] = [
+const TEXTS: &[&[u8]] = &[
     // directives, of any length
     b". .end .END .x1 ..a .a. end.",
     b".abcdefghijklmnopqrstuvwxyzabcdefghij",

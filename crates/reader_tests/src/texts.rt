@@ -3,7 +3,7 @@ use crate::report::print_fault;
 use reader::{Line, Lines, Word, Words, check_text};
 use std::io;
 
-const TEXTS: [&[u8]; 28] = [
+const TEXTS: &[&[u8]] = &[
     // bytes that no line may have
     b"\x00",
     b"\x08",

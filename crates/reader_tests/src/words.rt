@@ -3,7 +3,7 @@ use crate::report::print_fault;
 use reader::{Lines, Token, Word, Words};
 use std::io;
 
-const TEXTS: [&[u8]; 31] = [
+const TEXTS: &[&[u8]] = &[
     // words at the front, at the end, and among blanks
     b"a",
     b"a b",

@@ -1,5 +1,6 @@
 -- The words that are computed are those of the grammar. Assumes nothing.
 use Rattle.std.proofs.Common.{true≢false, ◌≡◌, ℕ, zero, suc, ◌+◌, ◌<◌, Bool, true, false, cond, eqb, List, [], ◌∷◌, ◌++◌, length, get_or, take, drop, Some, None, Option, sym, refl, ap, ◌∙◌, subst, ⊎_elim, add-zero, arith, take-append-drop}
+use Rattle.std.proofs.Math.Numerals.{one-add}
 use Rattle.std.specs.List.{list_all, prefix_len}
 use Rattle.std.proofs.lemmas.List.{take_at, drop_at, drop-drop, drop_more, get_or_at, get_or_past, length-take-le}
 use Rattle.std.proofs.lemmas.List.Sums.{prefix_len-le-length}
@@ -60,15 +61,12 @@ with_parts : (w : Piece) (r : Option (List Piece)) (all : List Piece) → with_p
 with_parts w None all e = let z : ◌≡◌ {A = ℕ} 0 1 = cc in absurd (omega arith)
 with_parts w (Some ws) all e = (ws, refl, cc)
 
--- the longest run of a class, and what follows it
-one_more : {n : ℕ} → 1 + n ≡ suc n
-one_more = omega arith
-
+-- the longest run of bytes that pass a test, and what follows it
 run_every : (p : ℕ → Bool) (s : List ℕ) → list_all p (take (prefix_len p s) s) ≡ true
 run_every p [] = refl
 run_every p (b ∷ s) =
     ⊎_elim
-    (λ yes. rw (yes, one_more) (rw yes (run_every p s)))
+    (λ yes. rw (yes, one-add) (rw yes (run_every p s)))
     (λ no. rw no refl)
     (cases_Bool (p b))
 

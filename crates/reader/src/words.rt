@@ -44,7 +44,7 @@ impl<'a> Words<'a> {
 
     /// The next word; none where only blanks and a comment are left.
     /// Refuses a quote that holds a tab or does not close, and alters nothing then.
-    // Beside the iterator, which has to end: it could not alter nothing, since it would meet the same fault again and again.
+    // Kept beside the iterator: an iterator has to end, and one that altered nothing at a fault would give it again and again.
     #[tactic(auto, using(crate::proofs::Spelling::grammatical))]
     pub fn next_word(&mut self) -> Result<Option<Token<'a>>, WordFault>
         ensures words { words_from self.old.line.now self.old.at ≡ answered result (words_from self.new.line.now self.new.at) }

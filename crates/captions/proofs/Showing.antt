@@ -1,11 +1,10 @@
 -- Texts shown one after another, by the laws of costs alone. Assumes nothing.
-use Rattle.std.proofs.Common.{◌≡◌, ℕ, suc, ◌+◌, ◌<◌, List, [], ◌∷◌, ◌++◌, length, get_or, take, sum_by, sym, refl, ap, ◌∙◌, subst, append_assoc, append-nil, add-zero, zero-add, arith, length-append}
+use Rattle.std.proofs.Common.{◌≡◌, ℕ, suc, ◌+◌, ◌<◌, List, [], ◌∷◌, ◌++◌, length, get_or, take, sum_by, sym, refl, ap, ◌∙◌, subst, append_assoc, append-nil, add-zero, zero-add, arith, length-append, lit<}
 use Rattle.std.specs.List.{flat_map}
 use Rattle.std.proofs.lemmas.List.{get_or-append-add, get_or_append_left, take-append-le}
 use Rattle.std.proofs.lemmas.List.Sums.{sum_by-append}
-use Rattle.captions.specs.Sheets.{Shown, ShowsAll}
+use Rattle.captions.specs.Sheets.{Shown, ShowsFirst}
 use Rattle.captions.proofs.Joining.{joined_append}
-use Rattle.captions.specs.declared.sheet.Sheet.TheVariants.{NoRoom}
 use Rattle.devices.specs.Costs.{cost}
 use Rattle.devices.specs.Panels.{PanelState, Room, shown_on}
 
@@ -38,11 +37,18 @@ take_then (x ∷ xs) ys zs m h =
     let one : suc (length xs) + m ≡ suc (length xs + m) = omega arith in
     ap (λ k. take k (x ∷ (xs ++ (ys ++ zs)))) one ∙ ap (λ l. x ∷ l) (take_then xs ys zs m h)
 
-pub no_room_then : (p q r : PanelState) (xs ys zs : List (List ℕ)) (n m : ℕ) → n ≡ length xs → Shown p xs q → ShowsAll q ys (NoRoom m) r → ShowsAll p (xs ++ (ys ++ zs)) (NoRoom (n + m)) r
-no_room_then p q r xs ys zs n m e a (within, b, full) =
+pub first_then : (p q r : PanelState) (xs ys zs : List (List ℕ)) (n m : ℕ) → n ≡ length xs → Shown p xs q → ShowsFirst q ys m r → ShowsFirst p (xs ++ (ys ++ zs)) (n + m) r
+first_then p q r xs ys zs n m e a (within, b, full) =
     let some : take (n + m) (xs ++ (ys ++ zs)) ≡ xs ++ take m ys = ap (λ k. take (k + m) (xs ++ (ys ++ zs))) e ∙ take_then xs ys zs m within in
     let next : get_or (xs ++ (ys ++ zs)) (n + m) [] ≡ get_or ys m [] = ap (λ k. get_or (xs ++ (ys ++ zs)) (k + m) []) e ∙ get_or-append-add xs (ys ++ zs) m [] ∙ get_or_append_left ys zs [] m within in (
       omega (arith, length-append xs (ys ++ zs), length-append ys zs),
       subst (λ l. Shown p l r) (sym some) (shown_then p q r xs (take m ys) a b),
       λ room. full (subst (Room r) next room),
     )
+
+-- the next of some texts finds no room
+pub full_here : (p q r : PanelState) (xs zs : List (List ℕ)) (text : List ℕ) → Shown p xs q → r ≡ q → (Room q text → ⊥) → ShowsFirst p (xs ++ (text ∷ [] ++ zs)) (length xs) r
+full_here p q r xs zs text a same full =
+    let stays : ShowsFirst q (text ∷ []) 0 q = (lit< tt, shown_none q, full) in
+    subst (λ n. ShowsFirst p (xs ++ (text ∷ [] ++ zs)) n r) (add-zero (length xs))
+    (first_then p q r xs (text ∷ []) zs (length xs) 0 refl a (subst (ShowsFirst q (text ∷ []) 0) (sym same) stays))

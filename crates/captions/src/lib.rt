@@ -3,4 +3,4 @@
 
 mod sheet;
 
-pub use sheet::{Sheet, proof_sheet};
+pub use sheet::{SheetFault, proof_sheet};

@@ -1,61 +1,90 @@
-ghost use Rattle.captions.specs.Sheets.{ProofSheet, ShowsAll, ShowsLine};
+ghost use Rattle.std.specs.Prelude.{◌≡◌, ℕ, ◌+◌, ◌^◌, ◌<◌, [], ◌∷◌, length, Some, MatchOption};
 ghost use Rattle.captions.specs.Captions.{quotes};
-ghost use Rattle.std.specs.Prelude.{[], ◌∷◌};
+ghost use Rattle.captions.specs.Sheets.{ProofSheet, ShowsLine, sheet_fault_text};
+ghost use Rattle.captions.specs.declared.sheet.SheetFault.TheVariants.{Refused};
+ghost use Rattle.reader.specs.Faults.{word_fault};
 ghost use Rattle.reader.specs.Tokens.{at_place};
 
 use devices::{NoRoom, Panel};
-use reader::{Fault, Line, Lines, Token, Word, WordFault, Words, check_text};
+use reader::{Fault, Line, Lines, Word, WordFault, Words, check_text};
+use std::error::Error;
+use std::fmt;
 
-/// How a proof sheet ended, and how many captions it shows.
-#[derive(Clone, Copy)]
-pub enum Sheet {
-    /// All captions were shown.
-    Complete(usize),
-    /// The next caption found no room.
+/// Why a proof sheet does not show all captions.
+#[derive(Clone, Copy, Debug, PartialEq, Eq)]
+pub enum SheetFault {
+    /// The text is refused, and nothing was shown.
+    Refused(Fault),
+    /// So many captions were shown, and the next one found no room.
     NoRoom(usize),
 }
 
-/// Shows the captions of a scene text on a panel, in order, until one finds no room.
+impl From<Fault> for SheetFault {
+    ghost from_gives = { λ x y. y ≡ Refused x };
+
+    fn from(fault: Fault) -> SheetFault {
+        SheetFault::Refused(fault)
+    }
+}
+
+impl From<WordFault> for SheetFault {
+    ghost from_gives = { λ x y. y ≡ Refused (word_fault x) };
+
+    fn from(fault: WordFault) -> SheetFault {
+        Fault::from(fault).into()
+    }
+}
+
+impl fmt::Display for SheetFault {
+    ghost output = { λ fault. Some (sheet_fault_text fault) };
+
+    /// Writes what `cueplay` prints where the sheet is not whole.
+    fn fmt<W: fmt::Write>(&self, f: &mut fmt::Formatter<W>) -> fmt::Result {
+        match self {
+            Self::Refused(fault) => write!(f, "refused {fault}"),
+            Self::NoRoom(shown) => write!(f, "room {shown}"),
+        }
+    }
+}
+
+impl Error for SheetFault {}
+
+/// Shows the captions of a scene text on a panel, in order, until one finds no room, and answers how many there are.
 /// A text that is refused shows nothing.
-pub fn proof_sheet<P: Panel>(text: &[u8], panel: &mut P) -> Result<Sheet, Fault>
+pub fn proof_sheet<P: Panel>(text: &[u8], panel: &mut P) -> Result<usize, SheetFault>
     ensures { ProofSheet text.now (P.state panel.old) result (P.state panel.new) }
 {
     check_text(text)?;
-    let mut lines = Lines::new(text);
     let mut shown = 0;
-    while let Some(line) = lines.next_line() {
-        match show_line(line, panel)? {
-            Sheet::Complete(n) => shown += n,
-            Sheet::NoRoom(n) => return Ok(Sheet::NoRoom(shown + n)),
-        }
+    for line in Lines::new(text) {
+        shown = show_line(line, shown, panel)?;
     }
-    Ok(Sheet::Complete(shown))
+    Ok(shown)
 }
 
-/// Shows the captions of a line.
-fn show_line<P: Panel>(line: Line<'_>, panel: &mut P) -> Result<Sheet, WordFault>
-    ensures { ShowsLine line.entry.bytes.now (P.state panel.old) result (P.state panel.new) }
+/// Shows the captions of a line, where those of the lines before were `before`, and answers how many there are then.
+fn show_line<P: Panel>(line: Line<'_>, before: usize, panel: &mut P) -> Result<usize, SheetFault>
+    requires { before + length line.bytes.now < 2 ^ 64 }
+    ensures { ShowsLine line.entry.bytes.now before (P.state panel.old) result (P.state panel.new) }
 {
-    let mut words = Words::of(line)?;
-    let mut shown = 0;
-    while let Some(token) = words.next_word()? {
-        match show_word(token, panel) {
-            Sheet::Complete(n) => shown += n,
-            Sheet::NoRoom(n) => return Ok(Sheet::NoRoom(shown + n)),
+    let mut shown = before;
+    for token in Words::of(line)? {
+        if let Some(caption) = caption(token?.word) {
+            match panel.show(caption) {
+                Ok(()) => shown += 1,
+                Err(NoRoom) => return Err(SheetFault::NoRoom(shown)),
+            }
         }
     }
-    Ok(Sheet::Complete(shown))
+    Ok(shown)
 }
 
-/// Shows a word that is a caption, and passes over any other.
-fn show_word<P: Panel>(token: Token<'_>, panel: &mut P) -> Sheet
-    ensures { ShowsAll (P.state panel.old) (quotes (at_place token.entry.place token.entry.word ∷ [])) result (P.state panel.new) }
+/// The text of a word that is a caption.
+fn caption(word: Word<'_>) -> Option<&[u8]>
+    ensures { (p : ℕ) → MatchOption result (quotes (at_place p word.entry ∷ []) ≡ []) (λ text. quotes (at_place p word.entry ∷ []) ≡ text.now ∷ []) }
 {
-    let Word::Quoted(text) = token.word else {
-        return Sheet::Complete(0);
-    };
-    match panel.show(text) {
-        Ok(()) => Sheet::Complete(1),
-        Err(NoRoom) => Sheet::NoRoom(0),
+    match word {
+        Word::Quoted(text) => Some(text),
+        _ => None,
     }
 }

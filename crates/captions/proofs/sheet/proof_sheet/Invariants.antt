@@ -1,16 +1,12 @@
-use Rattle.std.proofs.Common.{◌≡◌, ◌-◌, ◌≤◌, length, take}
-use Rattle.std.specs.List.{flat_map}
-use Rattle.captions.specs.Captions.{line_captions}
-use Rattle.captions.specs.Sheets.{Shown}
-use Rattle.reader.specs.Lines.{lines, line_start}
+use Rattle.std.proofs.Common.{◌≡◌}
+use Rattle.captions.proofs.Passing.{LinesShown}
 use Rattle.captions.proofs.sheet.proof_sheet.Given as goal
 
+-- the captions of the lines that were given were shown and counted
 abbrev pub invariant-loop-line : goal.invariant-loop-line
-invariant-loop-line g l =
-    (l.lines.text.now ≡ l.text)
-    × Shown (g.P.Panel.state l.initial.panel) (flat_map line_captions (take l.lines.given (lines l.text))) (g.P.Panel.state l.panel)
-    × (l.shown ≡ length (flat_map line_captions (take l.lines.given (lines l.text))))
-    × (l.shown ≤ line_start l.text l.lines.given)
-
-abbrev pub decreases-loop-line : goal.decreases-loop-line
-decreases-loop-line g l = length (lines l.lines.text.now) - l.lines.given
+invariant-loop-line g l = record {
+  can : (goal.iterator-loop-line g).can_next l.line-iterator;
+  finite : (goal.iterator-loop-line g).is_finite l.line-iterator;
+  same : l.line-iterator.text.now ≡ l.text;
+  before : LinesShown (g.P.Panel.state l.initial.panel) l.text l.line-iterator.given (g.P.Panel.state l.panel) l.shown;
+}

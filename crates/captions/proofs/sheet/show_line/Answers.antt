@@ -1,81 +1,63 @@
-use Rattle.std.proofs.Common.{◌≡◌, ◌+◌, [], ◌∷◌, ◌++◌, length, Some, Ok, sym, ap, ◌∙◌, subst, append_assoc, append-nil, arith, length-append}
+use Rattle.std.proofs.Common.{◌≡◌, ◌+◌, ◌-◌, Some, Ok, sym, ap, ◌∙◌, subst, arith}
 use Rattle.std.proofs.lemmas.Result.{err_from_is_err_and}
 use Rattle.std.proofs.lemmas.Bool.{cond-true}
-use Rattle.captions.specs.Captions.{quotes}
-use Rattle.captions.specs.Sheets.{Shown, ShowsAll}
-use Rattle.captions.specs.declared.sheet.Sheet.TheVariants.{NoRoom}
-use Rattle.captions.proofs.Quoting.{quotes-append, quotes_one}
-use Rattle.captions.proofs.Showing.{shown_then, no_room_then}
-use Rattle.reader.proofs.Gathering.{onto, onto_push, onto_parts, onto_some, onto_none}
-use Rattle.reader.specs.Tokens.{at_place, answered, Moves}
-use Rattle.reader.specs.Words.{words_from}
+use Rattle.captions.proofs.Passing.{WordsShown, none_then, all_then, none_read, passed_then, shown_then_one, full_then}
+use Rattle.reader.specs.Tokens.{GivesWord}
+use Rattle.captions.proofs.sheet.show_line.Given.{Over}
 use Rattle.captions.proofs.sheet.show_line.Goals as goal
+use Rattle.captions.proofs.sheet.show_line.Goals.{In_ok-token}
+
+gave : (g : Over) (c : In_ok-token g) → GivesWord c.loop-token.token-iterator (Some (Ok c.in_ok-token.field-0)) c.next.new.self
+gave g c = subst (λ r. GivesWord c.loop-token.token-iterator (Some r) c.next.new.self) c.in_ok-token.was c.in-Some.ensures.steps
 
 pub returns-in_err-token : goal.returns-in_err-token
 returns-in_err-token g c =
     let p = err_from_is_err_and c.from_residual-in_err-token.result c.from_residual-in_err-token.ensures.1 in
-    let inv = c.loop-token.invariant in
-    rw p.1 (cond-true _ _ _ c.in_ok-words.ensures.0 ∙ inv.1 ∙ ap (onto inv.0) c.in_err-token.ensures.words ∙ onto_none inv.0)
+    let gave = subst (λ r. GivesWord c.loop-token.token-iterator (Some r) c.next.new.self) c.in_err-token.was c.in-Some.ensures.steps in
+    rw (p.1, p.2) (cond-true _ _ _ c.in_ok-token-items.ensures.0 ∙ none_then _ _ _ _ _ c.loop-token.invariant.before _ _ gave)
+
+pub loop-token-init : goal.loop-token-init
+loop-token-init g c = record {
+  can = tt;
+  finite = tt;
+  before = none_read _ c.args.line.bytes.now _ (c.args.before - c.args.before) (ap (λ w. w.line.now) c.into_iter-token-iterator.ensures.into_iter_gives ∙ c.in_ok-token-items.ensures.1.0) (ap (λ w. w.at) c.into_iter-token-iterator.ensures.into_iter_gives ∙ c.in_ok-token-items.ensures.1.1.0) (omega arith);
+  counts = omega arith;
+}
+
+pub loop-token-preserved-in-Ok : goal.loop-token-preserved-in-Ok
+loop-token-preserved-in-Ok g c =
+    let shows = c.in-Ok.ensures in
+    let one = shown_then_one _ _ _ _ _ c.loop-token.invariant.before _ _ (gave g (goal.at.loop-token-preserved-in-Ok g c).In_ok-token) _ (c.in-Some-caption.ensures c.in_ok-token.field-0.place) shows.0 _ shows.1 in
+    let count : c.loop-token.shown - c.args.before + 1 ≡ c.loop-token.shown + 1 - c.args.before = omega (arith, c.loop-token.invariant.counts) in
+    record {
+      can = tt;
+      finite = tt;
+      before = subst (WordsShown _ _ _ _) count one;
+      counts = omega (arith, c.loop-token.invariant.counts);
+    }
 
 pub loop-token-preserved : goal.loop-token-preserved
-loop-token-preserved g c =
-    let inv = c.loop-token.invariant in
-    let left = c.in_ok-token.ensures in
-    let w = c.loop-token.words in
-    let v = c.next_word.new.self in
-    let token = c.in-Some.token in
-    let found = at_place token.place token.word in
-    let rest = words_from v.line.now v.at in
-    let step = left.words ∙ ap (λ f. answered (Ok f) rest) c.in-Some.is in
-    let moved = subst (λ f. Moves w (Ok f) v) c.in-Some.is left.moves in
-    let shows = c.in-Complete.ensures in
-    let both = quotes-append inv.0 (found ∷ []) in
-    let state = g.P.Panel.state in
-    let same = ap (λ r. r.now) moved.1.1.0 in (
-      inv.0 ++ found ∷ [],
-      inv.1 ∙ ap (onto inv.0) step ∙ sym (onto_push inv.0 found rest),
-      subst (λ l. Shown (state c.args.panel.now) l (state c.show_word.new.panel)) (sym both) (shown_then _ _ _ (quotes inv.0) (quotes (found ∷ [])) inv.2 shows.1),
-      omega (arith, inv.3, shows.0, ap length both, length-append (quotes inv.0) (quotes (found ∷ []))),
-      omega (arith, inv.4, shows.0, quotes_one found, moved.0),
-      omega (arith, moved.1.0, ap length inv.6),
-      same ∙ inv.6,
-    )
+loop-token-preserved g c = record {
+  can = tt;
+  finite = tt;
+  before = passed_then _ _ _ _ _ c.loop-token.invariant.before _ _ (gave g (goal.at.loop-token-preserved g c).In_ok-token) (c.in_default.ensures c.in_ok-token.field-0.place);
+  counts = c.loop-token.invariant.counts;
+}
 
-pub returns-in-NoRoom : goal.returns-in-NoRoom
-returns-in-NoRoom g c =
-    let inv = c.loop-token.invariant in
-    let left = c.in_ok-token.ensures in
-    let w = c.loop-token.words in
-    let v = c.next_word.new.self in
-    let token = c.in-Some.token in
-    let found = at_place token.place token.word in
-    let rest = words_from v.line.now v.at in
-    let step = left.words ∙ ap (λ f. answered (Ok f) rest) c.in-Some.is in
-    let moved = subst (λ f. Moves w (Ok f) v) c.in-Some.is left.moves in
-    let shows = c.in-NoRoom.ensures in
-    let state = g.P.Panel.state in (
-      omega (arith, inv.4, inv.5, shows.0, quotes_one found, moved.0, moved.1.0, ap length inv.6),
-      λ ws all.
-          let from_front : onto (inv.0 ++ found ∷ []) rest ≡ Some ws = onto_push inv.0 found rest ∙ sym (ap (onto inv.0) step) ∙ sym inv.1 ∙ sym (cond-true _ _ _ c.in_ok-words.ensures.0) ∙ all in
-          let parts = onto_parts (inv.0 ++ found ∷ []) ws rest from_front in
-          let texts : quotes ws ≡ quotes inv.0 ++ (quotes (found ∷ []) ++ quotes parts.0) =
-          ap quotes (parts.2 ∙ append_assoc inv.0 (found ∷ []) parts.0) ∙ quotes-append inv.0 (found ∷ [] ++ parts.0) ∙ ap (λ l. quotes inv.0 ++ l) (quotes-append (found ∷ []) parts.0) in
-          subst (λ l. ShowsAll (state c.args.panel.now) l (NoRoom (c.loop-token.shown + c.in-NoRoom.n)) (state c.show_word.new.panel)) (sym texts)
-          (no_room_then _ _ _ (quotes inv.0) (quotes (found ∷ [])) (quotes parts.0) _ _ inv.3 inv.2 shows),
+pub returns-in-Err : goal.returns-in-Err
+returns-in-Err g c = λ ws all.
+    let refused = c.in-Err.ensures in
+    let from_front = sym (cond-true _ _ _ c.in_ok-token-items.ensures.0) ∙ all in (
+      c.loop-token.shown - c.args.before,
+      omega (arith, c.loop-token.invariant.counts),
+      full_then _ _ _ _ _ c.loop-token.invariant.before _ _ (gave g (goal.at.returns-in-Err g c).In_ok-token) _ (c.in-Some-caption.ensures c.in_ok-token.field-0.place) refused.0 _ refused.1 ws from_front,
     )
 
 pub returns : goal.returns
 returns g c =
-    let inv = c.loop-token.invariant in
-    let left = c.in_ok-token.ensures in
-    let v = c.next_word.new.self in
-    let step = left.words ∙ ap (λ f. answered (Ok f) (words_from v.line.now v.at)) c.in_default.is in
-    let state = g.P.Panel.state in (
-      omega (arith, inv.4, inv.5),
+    let inv = c.loop-token.invariant.before in (
+      omega (arith, inv.few, inv.within),
       λ ws all.
-          let from_front : onto inv.0 (Some []) ≡ Some ws = sym (ap (onto inv.0) step) ∙ sym inv.1 ∙ sym (cond-true _ _ _ c.in_ok-words.ensures.0) ∙ all in
-          let some = sym (onto_some inv.0 []) ∙ from_front in
-          let whole : inv.0 ++ [] ≡ ws = cc in
-          let same : inv.0 ≡ ws = sym (append-nil inv.0) ∙ whole in
-          (inv.3 ∙ ap (λ l. length (quotes l)) same, subst (λ l. Shown (state c.args.panel.now) (quotes l) (state c.loop-token.panel)) same inv.2),
+          let end = all_then _ _ _ _ _ inv _ c.in-None.ensures.steps ws (sym (cond-true _ _ _ c.in_ok-token-items.ensures.0) ∙ all) in
+          (omega (arith, end.0, c.loop-token.invariant.counts), end.1),
     )

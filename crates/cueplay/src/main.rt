@@ -1,7 +1,7 @@
 //! Reads the scene in `scene.txt` and prints the proof sheet of its captions, or why the scene is refused.
 #![tactic(auto)]
 
-use captions::{Sheet, proof_sheet};
+use captions::proof_sheet;
 use devices::{Frames, Panel};
 use std::fs::File;
 use std::io;
@@ -36,14 +36,10 @@ fn read_scene(rt: &HostRuntime) -> io::Result<Vec<u8>> {
 fn print_sheet(rt: &HostRuntime, text: &[u8]) -> io::Result<()> {
     let mut buffer = vec![in rt.alloc(); 0u8; UNITS]?;
     let mut frames = Frames::new(&mut buffer);
-    match proof_sheet(text, &mut frames) {
-        Ok(sheet) => {
-            rt.stdout().write_all(frames.written())?;
-            match sheet {
-                Sheet::Complete(shown) => println!(rt; "captions {shown} units {}", frames.units()),
-                Sheet::NoRoom(shown) => println!(rt; "room {shown}"),
-            }
-        }
-        Err(fault) => println!(rt; "refused {} {}", fault.refusal.number(), fault.line),
+    let sheet = proof_sheet(text, &mut frames);
+    rt.stdout().write_all(frames.written())?;
+    match sheet {
+        Ok(shown) => println!(rt; "captions {shown} units {}", frames.units()),
+        Err(fault) => println!(rt; "{fault}"),
     }
 }

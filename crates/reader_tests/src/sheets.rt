@@ -1,8 +1,7 @@
 //! Proof sheets on panels with few units.
 use crate::report::print_fault;
-use captions::{Sheet, proof_sheet};
+use captions::{SheetFault, proof_sheet};
 use devices::{Frames, Panel, Roll};
-use reader::Fault;
 use std::io;
 
 /// A scene text, and the units of the panel that it is shown on: a roll and then frames.
@@ -43,8 +42,7 @@ fn print_roll(rt: &HostRuntime, text: &[u8], units: usize) -> io::Result<()> {
     println!(rt; "roll {units} [{}]", text.escape_ascii())?;
     let mut buffer = vec![in rt.alloc(); 0u8; units]?;
     let mut roll = Roll::new(&mut buffer);
-    let sheet = proof_sheet(text, &mut roll);
-    print_sheet(rt, sheet)?;
+    print_sheet(rt, proof_sheet(text, &mut roll))?;
     print_panel(rt, roll.units(), roll.written())
 }
 
@@ -52,17 +50,16 @@ fn print_frames(rt: &HostRuntime, text: &[u8], units: usize) -> io::Result<()> {
     println!(rt; "frames {units} [{}]", text.escape_ascii())?;
     let mut buffer = vec![in rt.alloc(); 0u8; units]?;
     let mut frames = Frames::new(&mut buffer);
-    let sheet = proof_sheet(text, &mut frames);
-    print_sheet(rt, sheet)?;
+    print_sheet(rt, proof_sheet(text, &mut frames))?;
     print_panel(rt, frames.units(), frames.written())
 }
 
 /// Prints how a sheet ended, and how many captions it shows.
-fn print_sheet(rt: &HostRuntime, sheet: Result<Sheet, Fault>) -> io::Result<()> {
+fn print_sheet(rt: &HostRuntime, sheet: Result<usize, SheetFault>) -> io::Result<()> {
     match sheet {
-        Ok(Sheet::Complete(shown)) => println!(rt; "complete {shown}"),
-        Ok(Sheet::NoRoom(shown)) => println!(rt; "room {shown}"),
-        Err(fault) => print_fault(rt, fault),
+        Ok(shown) => println!(rt; "complete {shown}"),
+        Err(SheetFault::Refused(fault)) => print_fault(rt, fault),
+        Err(fault) => println!(rt; "{fault}"),
     }
 }
 

@@ -6,9 +6,6 @@ pub trait KeySource {
     /// The bytes that wait.
     ghost keys: { Self → List ℕ };
 
-    /// Each implementation shows of each of its values that their number fits in 64 bits.
-    ghost countable: { (s : Self) → length (keys s) < 2 ^ 64 };
-
     /// How many bytes wait. Alters nothing.
     fn waiting(&self) -> u64
         ensures { result ≡ length (keys self.now) };
@@ -16,4 +13,7 @@ pub trait KeySource {
     /// The first byte that waits, which then waits no longer; none exactly when none waits.
     fn take(&mut self) -> Option<u8>
         ensures { Takes (keys self.old) result (keys self.new) };
+
+    /// Law: fewer than 2^64 bytes wait.
+    ghost countable: { (s : Self) → length (keys s) < 2 ^ 64 };
 }

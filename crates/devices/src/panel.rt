@@ -12,9 +12,6 @@ pub trait Panel {
     /// What has been shown, what is left and what a text costs.
     ghost state: { Self → PanelState };
 
-    /// Each implementation shows of each of its values that its numbers are within their bounds.
-    ghost bounded: { (p : Self) → Bounded (state p) };
-
     /// The units left. Alters nothing.
     fn units(&self) -> u32
         ensures { result ≡ (state self.now).units };
@@ -27,4 +24,7 @@ pub trait Panel {
     /// Refuses exactly when it costs more than that, and then alters nothing.
     fn show(&mut self, text: &[u8]) -> Result<(), NoRoom>
         ensures { Shows (state self.old) text.now result (state self.new) };
+
+    /// Law: the numbers of each panel are within their bounds.
+    ghost bounded: { (p : Self) → Bounded (state p) };
 }

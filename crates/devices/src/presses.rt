@@ -1,5 +1,6 @@
 ghost use Rattle.std.specs.Prelude.{◌≡◌, ◌^◌, ◌<◌, replicate};
-ghost use Rattle.devices.specs.Keys.{presses_countable};
+ghost use Rattle.std.proofs.Common.{rules};
+ghost use Rattle.std.proofs.lemmas.Grind.{common_steps};
 
 use crate::keys::KeySource;
 
@@ -24,17 +25,14 @@ impl Presses {
 impl KeySource for Presses {
     ghost keys = { λ s. replicate s.left s.key };
 
-    ghost countable = { λ s. presses_countable s.left s.key s.countable };
+    ghost countable = { Prim.search (rules, common_steps) };
 
     fn waiting(&self) -> u64 {
         self.left
     }
 
     fn take(&mut self) -> Option<u8> {
-        if self.left == 0 {
-            return None;
-        }
-        self.left -= 1;
+        self.left = self.left.checked_sub(1)?;
         Some(self.key)
     }
 }

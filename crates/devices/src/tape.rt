@@ -1,4 +1,5 @@
 ghost use Rattle.std.specs.Prelude.{◌≡◌, ◌^◌, ◌<◌, length};
+ghost use Rattle.std.proofs.Common.{rules};
 
 use crate::keys::KeySource;
 
@@ -22,18 +23,15 @@ impl<'a> Tape<'a> {
 impl<'a> KeySource for Tape<'a> {
     ghost keys = { λ s. s.rest.now };
 
-    ghost countable = { λ s. s.countable };
+    ghost countable = { Prim.search rules };
 
     fn waiting(&self) -> u64 {
         self.rest.len() as u64
     }
 
     fn take(&mut self) -> Option<u8> {
-        let rest = self.rest;
-        if rest.is_empty() {
-            return None;
-        }
-        self.rest = &rest[1..];
-        Some(rest[0])
+        let (key, rest) = self.rest.split_first()?;
+        self.rest = rest;
+        Some(*key)
     }
 }

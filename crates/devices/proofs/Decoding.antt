@@ -1,5 +1,5 @@
 -- Encoding and decoding are inverse. Assumes nothing.
-use Rattle.std.proofs.Common.{◌≡◌, ℕ, ◌+◌, ◌*◌, ◌/◌, ◌%◌, ◌<◌, Bool, true, false, eqb, List, [], ◌∷◌, ◌++◌, map, length, sym, refl, ap, ◌∙◌, append_assoc, append-nil, arith}
+use Rattle.std.proofs.Common.{◌≡◌, ℕ, ◌+◌, ◌*◌, ◌/◌, ◌%◌, ◌<◌, Bool, true, false, eqb, List, [], ◌∷◌, ◌++◌, map, length, sym, refl, ap, ◌∙◌, append_assoc, append-nil, arith, length-append}
 use Rattle.std.specs.List.{AllByRecursion}
 use Rattle.std.proofs.lemmas.Bool.Decides.{nat_tests}
 use Rattle.std.proofs.lemmas.Bool.{cond-false}
@@ -130,3 +130,10 @@ hex_push (x ∷ t) b = ap (λ l. digit (x / 16) ∷ digit (x % 16) ∷ l) (hex_p
 pub line_some : (t : List ℕ) → 0 < length t → line t ≡ hex t ++ 10 ∷ []
 line_some [] h = absurd (omega arith)
 line_some (b ∷ t) h = refl
+
+pub some_line : (t : List ℕ) → 0 < length (line t) → 0 < length t
+some_line [] h = h
+some_line (b ∷ t) h = omega arith
+
+pub length-line : (t : List ℕ) → 0 < length t → length (line t) ≡ 2 * length t + 1
+length-line t some = ap length (line_some t some) ∙ length-append (hex t) (10 ∷ []) ∙ ap (λ n. n + 1) (length-hex t)

@@ -1,4 +1,3 @@
-pub mod Appending
 pub mod Costing
 pub mod Decoding
-pub mod Showing
+pub mod Formats

@@ -1,7 +1,7 @@
 -- Texts as lines of hexadecimal digits, and back. Assumes nothing.
 use Rattle.std.specs.Prelude.{◌≡◌, ℕ, ◌+◌, ◌-◌, ◌*◌, ◌/◌, ◌%◌, ◌<◌, Bool, true, false, cond, ◌||◌, List, [], ◌∷◌, ◌++◌, ◌==◌, nat_lt}
 use Rattle.std.specs.Int.{is_in_range}
-use Rattle.std.specs.List.{AllByRecursion}
+use Rattle.std.specs.List.{AllByRecursion, flat_map}
 
 -- The upper-case hexadecimal digit of a number below 16, and the number of such a digit.
 abbrev pub digit : ℕ → ℕ
@@ -34,6 +34,13 @@ abbrev pub texts_of : List ℕ → List (List ℕ)
 texts_of [] = []
 texts_of (x ∷ []) = cond (x == 10) ([] ∷ []) []
 texts_of (x ∷ y ∷ rest) = cond (x == 10) ([] ∷ texts_of (y ∷ rest)) (onto_first (16 * number x + number y) (texts_of rest))
+
+-- The bytes of the texts to which something decodes, joined, and the page of these texts.
+abbrev pub joined_texts : List ℕ → List ℕ
+joined_texts w = flat_map (λ text. text) (texts_of w)
+
+abbrev pub page_again : List ℕ → List ℕ
+page_again w = page (texts_of w)
 
 abbrev pub is_digit : ℕ → Bool
 is_digit d = is_in_range 48 57 d || is_in_range 65 70 d

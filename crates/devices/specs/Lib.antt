@@ -1,5 +1,6 @@
 pub mod Buffers
 pub mod Costs
+pub mod Formats
 pub mod Hex
 pub mod Keys
 pub mod Laws

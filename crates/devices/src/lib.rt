@@ -1,13 +1,14 @@
 //! Key sources and panels: what a show reads from, and what it shows on.
 #![tactic(auto)]
 
+mod buffer_panel;
+mod format;
 mod frames;
 mod keys;
 mod panel;
 mod presses;
 mod rate;
 mod roll;
-mod sheet;
 mod tape;
 
 pub use frames::Frames;

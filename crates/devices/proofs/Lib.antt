@@ -1,3 +1,4 @@
+pub mod Appending
 pub mod Costing
 pub mod Decoding
 pub mod Formats

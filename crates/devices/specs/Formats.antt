@@ -1,7 +1,14 @@
--- What a text that is written more does to what a panel shows. Assumes nothing.
-use Rattle.std.specs.Prelude.{◌≡◌, ℕ, List, ◌++◌}
+-- What a format does with a text, and what the text does then to what a panel shows. Assumes nothing.
+use Rattle.std.specs.Prelude.{◌≡◌, ℕ, ◌<◌, ◌≤◌, List, ◌++◌, length, drop, Ok, Err, Result}
+use Rattle.devices.specs.declared.panel.NoRoom.{NoRoom}
 
--- `Adds shown rewritten line text`: where `shown` says what bytes a written part shows, and `rewritten` what it is once it
+-- `Writes before line r after`: where r is a number, the line has that many bytes and stands at the front of the space,
+-- with nothing after it changed; where r is a refusal, the line is longer than the space, which has not changed.
+abbrev pub Writes : List ℕ → List ℕ → Result ℕ NoRoom → List ℕ → Type 0
+Writes before line (Ok n) after = (n ≡ length line) × (n ≤ length before) × (after ≡ line ++ drop n before)
+Writes before line (Err _) after = (length before < length line) × (after ≡ before)
+
+-- `Adds shown rewritten line text`, where `shown` says what bytes a written part shows, and `rewritten` what it is once it
 -- is read back and written again: after any part that comes back whole, the line shows the text after the bytes before,
 -- and both together come back whole.
 abbrev pub Adds : (List ℕ → List ℕ) → (List ℕ → List ℕ) → List ℕ → List ℕ → Type 0

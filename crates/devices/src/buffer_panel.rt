@@ -45,6 +45,13 @@ impl<'a, F: Format> BufferPanel<'a, F> {
     {
         &self.buffer[..self.used]
     }
+
+    /// How many bytes of the buffer the panel uses.
+    fn capacity(&self) -> usize
+        ensures { result ≡ capacity self.now.buffer.now }
+    {
+        self.buffer.len().min(MOST)
+    }
 }
 
 impl<'a, F: Format> Panel for BufferPanel<'a, F> {
@@ -53,7 +60,7 @@ impl<'a, F: Format> Panel for BufferPanel<'a, F> {
     ghost bounded = { λ s. buffer_bounded F.shown F.rate s.buffer.now s.used F.bounded };
 
     fn units(&self) -> u32 {
-        (self.buffer.len().min(MOST) - self.used) as u32
+        (self.capacity() - self.used) as u32
     }
 
     fn rate(&self) -> Rate {
@@ -64,13 +71,9 @@ impl<'a, F: Format> Panel for BufferPanel<'a, F> {
         ensures shows { Shows (buffer_state F.shown F.rate self.old.buffer.now self.old.used) text.now result (buffer_state F.shown F.rate self.new.buffer.now self.new.used) }
         ensures writes { Appends self.old.buffer self.old.used (F.line text.now) result self.new.buffer self.new.used }
     {
-        let cost = F::rate().cost(text.len());
-        if cost > u128::from(self.units()) {
-            return Err(NoRoom);
-        }
-        let end = self.used + cost as usize;
-        F::write(text, &mut self.buffer[self.used..end]);
-        self.used = end;
+        let end = self.capacity();
+        let written = F::write(text, &mut self.buffer[self.used..end])?;
+        self.used += written;
         Ok(())
     }
 }

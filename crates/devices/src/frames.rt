@@ -5,6 +5,7 @@ ghost use Rattle.std.proofs.Common.{rules};
 
 use crate::buffer_panel::BufferPanel;
 use crate::format::Format;
+use crate::panel::NoRoom;
 use crate::rate::Rate;
 
 /// A panel that writes its texts into a lent buffer as lines of upper-case hexadecimal digits, two for each byte.
@@ -32,14 +33,20 @@ impl Format for HexLines {
         Rate { byte: 2, text: 1 }
     }
 
-    fn write(text: &[u8], space: &mut [u8]) {
+    fn write(text: &[u8], space: &mut [u8]) -> Result<usize, NoRoom> {
+        if text.is_empty() {
+            return Ok(0);
+        }
+        let end = 2 * text.len();
+        if end >= space.len() {
+            return Err(NoRoom);
+        }
         for (i, b) in text.iter().enumerate() {
             space[2 * i] = hex_digit(*b / 16);
             space[2 * i + 1] = hex_digit(*b % 16);
         }
-        if let Some(end) = space.last_mut() {
-            *end = b'\n';
-        }
+        space[end] = b'\n';
+        Ok(end + 1)
     }
 }
 

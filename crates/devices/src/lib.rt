@@ -11,10 +11,12 @@ mod rate;
 mod roll;
 mod tape;
 
-pub use frames::Frames;
+pub use buffer_panel::BufferPanel;
+pub use format::Format;
+pub use frames::{Frames, HexLines};
 pub use keys::KeySource;
 pub use panel::{NoRoom, Panel};
 pub use presses::Presses;
 pub use rate::Rate;
-pub use roll::Roll;
+pub use roll::{Plain, Roll};
 pub use tape::Tape;

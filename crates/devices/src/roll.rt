@@ -3,6 +3,7 @@ ghost use Rattle.std.proofs.Common.{rules};
 
 use crate::buffer_panel::BufferPanel;
 use crate::format::Format;
+use crate::panel::NoRoom;
 use crate::rate::Rate;
 
 /// A panel that writes the bytes of its texts into a lent buffer, one text after another.
@@ -29,7 +30,12 @@ impl Format for Plain {
         Rate { byte: 1, text: 0 }
     }
 
-    fn write(text: &[u8], space: &mut [u8]) {
-        space.copy_from_slice(text);
+    fn write(text: &[u8], space: &mut [u8]) -> Result<usize, NoRoom> {
+        let len = text.len();
+        if len > space.len() {
+            return Err(NoRoom);
+        }
+        space[..len].copy_from_slice(text);
+        Ok(len)
     }
 }

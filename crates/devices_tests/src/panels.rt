@@ -1,5 +1,5 @@
 use crate::quoted::Quoted;
-use devices::{Frames, NoRoom, Panel, Roll};
+use devices::{BufferPanel, Format, Frames, HexLines, NoRoom, Panel, Plain, Roll};
 use std::io;
 
 /// A buffer's length, and the texts that are to be shown one after another on a panel over it.
@@ -38,35 +38,25 @@ const LONG: [usize; 4] = [1_048_575, 1_048_576, 1_048_577, 3_000_000];
 /// A line for each case of a roll.
 pub fn rolls(rt: &HostRuntime) -> io::Result<()> {
     for case in &ROLLS {
-        roll_case(rt, case)?;
+        show_case::<Plain>(rt, "roll", case)?;
     }
     Ok(())
-}
-
-fn roll_case(rt: &HostRuntime, Case(len, texts): &Case) -> io::Result<()> {
-    let mut buffer = vec![in rt.alloc(); b'.'; *len]?;
-    let mut roll = Roll::new(&mut buffer);
-    print!(rt; "roll {len}")?;
-    show_texts(rt, &mut roll, texts)?;
-    print_bytes(rt, "written", roll.written())?;
-    print_bytes(rt, "buffer", &buffer)?;
-    println!(rt)
 }
 
 /// A line for each case of frames.
 pub fn frames(rt: &HostRuntime) -> io::Result<()> {
     for case in &FRAMES {
-        frames_case(rt, case)?;
+        show_case::<HexLines>(rt, "frames", case)?;
     }
     Ok(())
 }
 
-fn frames_case(rt: &HostRuntime, Case(len, texts): &Case) -> io::Result<()> {
+fn show_case<F: Format>(rt: &HostRuntime, name: &str, Case(len, texts): &Case) -> io::Result<()> {
     let mut buffer = vec![in rt.alloc(); b'.'; *len]?;
-    let mut frames = Frames::new(&mut buffer);
-    print!(rt; "frames {len}")?;
-    show_texts(rt, &mut frames, texts)?;
-    print_bytes(rt, "written", frames.written())?;
+    let mut panel = BufferPanel::<F>::new(&mut buffer);
+    print!(rt; "{name} {len}")?;
+    show_texts(rt, &mut panel, texts)?;
+    print_bytes(rt, "written", panel.written())?;
     print_bytes(rt, "buffer", &buffer)?;
     println!(rt)
 }
@@ -83,19 +73,16 @@ pub fn long_buffers(rt: &HostRuntime) -> io::Result<()> {
 
 /// On each panel over a buffer longer than it uses, a text that is too long by a byte, and then the longest that it can show.
 pub fn long_texts(rt: &HostRuntime) -> io::Result<()> {
-    let mut buffer = vec![in rt.alloc(); b'.'; 1_048_577]?;
-    let mut roll = Roll::new(&mut buffer);
-    print!(rt; "roll 1048577")?;
-    show_long(rt, &mut roll, &[1_048_577, 1_048_576])?;
-    print!(rt; " written {}", roll.written().len())?;
-    print_bytes(rt, "ending", ending(&buffer))?;
-    println!(rt)?;
+    show_long_case::<Plain>(rt, "roll", &[1_048_577, 1_048_576])?;
+    show_long_case::<HexLines>(rt, "frames", &[524_288, 524_287])
+}
 
+fn show_long_case<F: Format>(rt: &HostRuntime, name: &str, lengths: &[usize]) -> io::Result<()> {
     let mut buffer = vec![in rt.alloc(); b'.'; 1_048_577]?;
-    let mut frames = Frames::new(&mut buffer);
-    print!(rt; "frames 1048577")?;
-    show_long(rt, &mut frames, &[524_288, 524_287])?;
-    print!(rt; " written {}", frames.written().len())?;
+    let mut panel = BufferPanel::<F>::new(&mut buffer);
+    print!(rt; "{name} 1048577")?;
+    show_long(rt, &mut panel, lengths)?;
+    print!(rt; " written {}", panel.written().len())?;
     print_bytes(rt, "ending", ending(&buffer))?;
     println!(rt)
 }
@@ -135,8 +122,5 @@ fn word(answer: Result<(), NoRoom>) -> &'static str {
 
 /// The last three bytes.
 fn ending(bytes: &[u8]) -> &[u8] {
-    if bytes.len() < 3 {
-        return bytes;
-    }
-    &bytes[bytes.len() - 3..]
+    &bytes[bytes.len().saturating_sub(3)..]
 }

@@ -37,5 +37,5 @@ pub trait Format: Drop {
     ghost bounded: { Bounded (starting rate []) };
 
     /// Law: where nothing is written, nothing is shown.
-    ghost none: { (shown [] ≡ []) × (rewritten [] ≡ []) };
+    ghost empty: { (shown [] ≡ []) × (rewritten [] ≡ []) };
 }

@@ -27,7 +27,7 @@ impl Format for HexLines {
 
     ghost bounded = { Prim.search rules };
 
-    ghost none = { Prim.search rules };
+    ghost empty = { Prim.search rules };
 
     fn rate() -> Rate {
         Rate { byte: 2, text: 1 }
@@ -41,6 +41,7 @@ impl Format for HexLines {
         if end >= space.len() {
             return Err(NoRoom);
         }
+        // By index, since of what is written through the items of `chunks_exact_mut` no proof knows the bytes.
         for (i, b) in text.iter().enumerate() {
             space[2 * i] = hex_digit(*b / 16);
             space[2 * i + 1] = hex_digit(*b % 16);

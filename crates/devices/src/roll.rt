@@ -24,7 +24,7 @@ impl Format for Plain {
 
     ghost bounded = { Prim.search rules };
 
-    ghost none = { Prim.search rules };
+    ghost empty = { Prim.search rules };
 
     fn rate() -> Rate {
         Rate { byte: 1, text: 0 }

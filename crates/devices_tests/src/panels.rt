@@ -37,16 +37,17 @@ const LONG: [usize; 4] = [1_048_575, 1_048_576, 1_048_577, 3_000_000];
 
 /// A line for each case of a roll.
 pub fn rolls(rt: &HostRuntime) -> io::Result<()> {
-    for case in &ROLLS {
-        show_case::<Plain>(rt, "roll", case)?;
-    }
-    Ok(())
+    show_cases::<Plain>(rt, "roll", &ROLLS)
 }
 
 /// A line for each case of frames.
 pub fn frames(rt: &HostRuntime) -> io::Result<()> {
-    for case in &FRAMES {
-        show_case::<HexLines>(rt, "frames", case)?;
+    show_cases::<HexLines>(rt, "frames", &FRAMES)
+}
+
+fn show_cases<F: Format>(rt: &HostRuntime, name: &str, cases: &[Case]) -> io::Result<()> {
+    for case in cases {
+        show_case::<F>(rt, name, case)?;
     }
     Ok(())
 }

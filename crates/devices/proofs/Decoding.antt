@@ -131,9 +131,5 @@ pub line_some : (t : List ℕ) → 0 < length t → line t ≡ hex t ++ 10 ∷ [
 line_some [] h = absurd (omega arith)
 line_some (b ∷ t) h = refl
 
-pub some_line : (t : List ℕ) → 0 < length (line t) → 0 < length t
-some_line [] h = h
-some_line (b ∷ t) h = omega arith
-
 pub length-line : (t : List ℕ) → 0 < length t → length (line t) ≡ 2 * length t + 1
 length-line t some = ap length (line_some t some) ∙ length-append (hex t) (10 ∷ []) ∙ ap (λ n. n + 1) (length-hex t)

@@ -2,7 +2,8 @@ ghost use Rattle.std.specs.Prelude.{◌≡◌, ◌≤◌, take};
 ghost use Rattle.devices.specs.Buffers.{Appends, capacity};
 ghost use Rattle.devices.specs.Hex.{Inverse};
 ghost use Rattle.devices.specs.Panels.{Shows};
-ghost use Rattle.devices.specs.States.{buffer_bounded, buffer_state, starting};
+ghost use Rattle.devices.specs.States.{buffer_state, starting};
+ghost use Rattle.std.proofs.Common.{rules};
 
 use crate::format::Format;
 use crate::panel::{NoRoom, Panel};
@@ -13,6 +14,7 @@ use std::marker::PhantomData;
 const MOST: usize = 1_048_576;
 
 /// A panel that writes its texts into a lent buffer, one after another, each as the format `F` says.
+// A lent buffer and a number of bytes, and no `Vec`: a panel takes no memory of its own.
 #[derive(Drop)]
 pub struct BufferPanel<'a, F: Format> {
     buffer: &'a mut [u8],
@@ -57,7 +59,7 @@ impl<'a, F: Format> BufferPanel<'a, F> {
 impl<'a, F: Format> Panel for BufferPanel<'a, F> {
     ghost state = { λ s. buffer_state F.shown F.rate s.buffer.now s.used };
 
-    ghost bounded = { λ s. buffer_bounded F.shown F.rate s.buffer.now s.used F.bounded };
+    ghost bounded = { Prim.search rules };
 
     fn units(&self) -> u32 {
         (self.capacity() - self.used) as u32

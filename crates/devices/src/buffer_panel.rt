@@ -28,9 +28,11 @@ pub struct BufferPanel<'a, F: Format> {
 
 impl<'a, F: Format> BufferPanel<'a, F> {
     /// A panel with nothing shown, and as many units as `buffer` has bytes, but at most 1,048,576.
+    /// It holds this very reference, so that `buffer` is what the panel's buffer was when the panel goes.
     pub fn new(buffer: &'a mut [u8]) -> BufferPanel<'a, F>
         ensures starts { buffer_state F.shown F.rate result.buffer.now result.used ≡ starting F.rate buffer.old }
         ensures untouched { (result.used ≡ 0) × (result.buffer.now ≡ buffer.old) }
+        ensures lender { result.buffer.ghost_name ≡ buffer.entry.ghost_name }
     {
         BufferPanel {
             buffer,

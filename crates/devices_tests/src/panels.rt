@@ -92,8 +92,8 @@ fn show_long_case<F: Format>(rt: &HostRuntime, name: &str, lengths: &[usize]) ->
 fn show_texts<P: Panel>(rt: &HostRuntime, panel: &mut P, texts: &[&[u8]]) -> io::Result<()> {
     print!(rt; " units {}", panel.units())?;
     for text in texts {
-        let answer = word(panel.show(text));
-        print!(rt; " show {} {answer} {}", Quoted(text), panel.units())?;
+        print!(rt; " show {}", Quoted(text))?;
+        show_one(rt, panel, text)?;
     }
     Ok(())
 }
@@ -103,22 +103,23 @@ fn show_long<P: Panel>(rt: &HostRuntime, panel: &mut P, lengths: &[usize]) -> io
     print!(rt; " units {}", panel.units())?;
     for len in lengths {
         let text = vec![in rt.alloc(); b'x'; *len]?;
-        let answer = word(panel.show(&text));
-        print!(rt; " length {len} {answer} {}", panel.units())?;
+        print!(rt; " length {len}")?;
+        show_one(rt, panel, &text)?;
     }
     Ok(())
 }
 
-fn print_bytes(rt: &HostRuntime, name: &str, bytes: &[u8]) -> io::Result<()> {
-    print!(rt; " {name} {}", Quoted(bytes))
-}
-
-/// An answer in a word.
-fn word(answer: Result<(), NoRoom>) -> &'static str {
-    match answer {
+/// Shows a text; then the answer, and the units after it.
+fn show_one<P: Panel>(rt: &HostRuntime, panel: &mut P, text: &[u8]) -> io::Result<()> {
+    let answer = match panel.show(text) {
         Ok(()) => "shown",
         Err(NoRoom) => "refused",
-    }
+    };
+    print!(rt; " {answer} {}", panel.units())
+}
+
+fn print_bytes(rt: &HostRuntime, name: &str, bytes: &[u8]) -> io::Result<()> {
+    print!(rt; " {name} {}", Quoted(bytes))
 }
 
 /// The last three bytes.

@@ -1,4 +1,4 @@
--- What a format does with a text, and what the text does then to what a panel shows. Assumes nothing.
+-- What a format does with a text. Assumes nothing.
 use Rattle.std.specs.Prelude.{◌≡◌, ℕ, ◌<◌, ◌≤◌, List, ◌++◌, length, drop, Ok, Err, Result}
 use Rattle.devices.specs.declared.panel.NoRoom.{NoRoom}
 
@@ -8,8 +8,8 @@ abbrev pub Writes : List ℕ → List ℕ → Result ℕ NoRoom → List ℕ →
 Writes before line (Ok n) after = (n ≡ length line) × (n ≤ length before) × (after ≡ line ++ drop n before)
 Writes before line (Err _) after = (length before < length line) × (after ≡ before)
 
--- `Adds shown rewritten line text`, where `shown` says what bytes a written part shows, and `rewritten` what it is once it
--- is read back and written again: after any part that comes back whole, the line shows the text after the bytes before,
--- and both together come back whole.
+-- How one text more is read back: `shown` gives the bytes that a written part shows, and `rewritten` what the part is once it
+-- is read back into texts and these are written again. `Adds shown rewritten line text`: after any part that comes back as it
+-- was, the line shows the text after the part's own bytes, and part and line come back as they were.
 abbrev pub Adds : (List ℕ → List ℕ) → (List ℕ → List ℕ) → List ℕ → List ℕ → Type 0
 Adds shown rewritten line text = (w : List ℕ) → rewritten w ≡ w → (shown (w ++ line) ≡ shown w ++ text) × (rewritten (w ++ line) ≡ w ++ line)

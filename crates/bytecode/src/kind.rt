@@ -1,11 +1,13 @@
 ghost use Rattle.std.specs.Prelude.{◌≡◌};
-ghost use Rattle.bytecode.specs.Kinds.{kind_of, size, slots};
+ghost use Rattle.std.specs.Prelude.{Some};
+ghost use Rattle.bytecode.specs.Kinds.{kind_letter, kind_of, size, slots};
 ghost use Rattle.std.proofs.Common.{rules};
 
 use operands::Cell;
+use std::fmt;
 
 /// What sort of value stands on the operand stack.
-#[derive(Clone, Copy, PartialEq, Eq)]
+#[derive(Clone, Copy, Debug, PartialEq, Eq)]
 pub enum Kind {
     /// I, a 32-bit signed number.
     Int,
@@ -39,27 +41,44 @@ impl Cell for Kind {
     }
 }
 
+/// The kind's letter.
+impl fmt::Display for Kind {
+    ghost output = { λ kind. Some (kind_letter kind) };
+
+    fn fmt<W: fmt::Write>(&self, f: &mut fmt::Formatter<W>) -> fmt::Result {
+        f.write_str(match self {
+            Kind::Int => "I",
+            Kind::Long => "J",
+            Kind::Text => "T",
+            Kind::Output => "O",
+        })
+    }
+}
+
 /// The kinds that are numbers: what arithmetic works on, and registers hold.
-#[derive(Clone, Copy, PartialEq, Eq)]
+#[derive(Clone, Copy, Debug, PartialEq, Eq)]
 pub enum Number {
     Int,
     Long,
 }
 
 impl Number {
-    pub fn kind(self) -> Kind
-        ensures { result ≡ kind_of self }
-    {
-        match self {
-            Number::Int => Kind::Int,
-            Number::Long => Kind::Long,
-        }
-    }
-
     /// How many registers a number takes.
     pub fn registers(self) -> usize
         ensures { result ≡ size self }
     {
-        self.kind().slots()
+        Kind::from(self).slots()
+    }
+}
+
+/// The kind of value that the number is.
+impl From<Number> for Kind {
+    ghost from_gives = { λ number kind. kind ≡ kind_of number };
+
+    fn from(number: Number) -> Kind {
+        match number {
+            Number::Int => Kind::Int,
+            Number::Long => Kind::Long,
+        }
     }
 }

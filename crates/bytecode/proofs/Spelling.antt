@@ -1,16 +1,19 @@
--- All mnemonics, and that no two are spelled alike. Assumes nothing.
-use Rattle.std.proofs.Common.{◌≡◌, ℕ, ◌<◌, cond, List, [], ◌∷◌, map, get_or, Some, None, Option, sym, refl, ap, ◌∙◌, lit<}
-use Rattle.std.proofs.lemmas.List.{get_or-map}
+-- No two mnemonics are spelled alike, and what a search of their table finds. Assumes nothing.
+use Rattle.std.proofs.Common.{Bor, length, arith, ◌≡◌, ℕ, ◌<◌, cond, List, [], ◌∷◌, map, get_or, Some, None, Option, sym, refl, ap, subst, ◌∙◌, lit<}
+use Rattle.std.proofs.lemmas.List.{get_or-map, length-map}
+use Rattle.std.specs.List.{AllWithin, HoldsAt}
+use Rattle.std.specs.Option.{MatchOption, option_map}
 use Rattle.std.specs.Str.{bytes_eq}
-use Rattle.bytecode.specs.Mnemonics.{spelling}
+use Rattle.bytecode.specs.Mnemonics.{Spells, spelling}
+use Rattle.bytecode.specs.declared.mnemonic.Row.{Row}
 use Rattle.bytecode.specs.declared.mnemonic.Mnemonic.{Mnemonic}
 use Rattle.bytecode.specs.declared.mnemonic.Mnemonic.TheVariants.{Iadd, Idiv, Imul, Ineg, Irem, Ishl, Ishr, Isub, Ladd, Ldiv, Lmul, Lneg, Lrem, Lshl, Lshr, Lsub, LdcW, Ldc2W, Sipush, Goto, IfIcmpeq, IfIcmpge, IfIcmpgt, IfIcmple, IfIcmplt, IfIcmpne, Ifeq, Ifge, Ifgt, Ifle, Iflt, Ifne, Ireturn, Lcmp, Lreturn, Nop, Return, I2c, I2s, I2l, L2i, Dup, Dup2, Pop, Pop2, Swap, Getstatic, Invokestatic, Putstatic, Iload, Istore, Lload, Lstore}
 
-abbrev pub mnemonics : List Mnemonic
+abbrev mnemonics : List Mnemonic
 mnemonics = Iadd ∷ Idiv ∷ Imul ∷ Ineg ∷ Irem ∷ Ishl ∷ Ishr ∷ Isub ∷ Ladd ∷ Ldiv ∷ Lmul ∷ Lneg ∷ Lrem ∷ Lshl ∷ Lshr ∷ Lsub ∷ LdcW ∷ Ldc2W ∷ Sipush ∷ Goto ∷ IfIcmpeq ∷ IfIcmpge ∷ IfIcmpgt ∷ IfIcmple ∷ IfIcmplt ∷ IfIcmpne ∷ Ifeq ∷ Ifge ∷ Ifgt ∷ Ifle ∷ Iflt ∷ Ifne ∷ Ireturn ∷ Lcmp ∷ Lreturn ∷ Nop ∷ Return ∷ I2c ∷ I2s ∷ I2l ∷ L2i ∷ Dup ∷ Dup2 ∷ Pop ∷ Pop2 ∷ Swap ∷ Getstatic ∷ Invokestatic ∷ Putstatic ∷ Iload ∷ Istore ∷ Lload ∷ Lstore ∷ []
 
 -- each has its place in the list
-pub placed : (m : Mnemonic) → (k : ℕ) × (k < 53) × (get_or mnemonics k Iadd ≡ m)
+placed : (m : Mnemonic) → (k : ℕ) × (k < 53) × (get_or mnemonics k Iadd ≡ m)
 placed Iadd = (0, lit< tt, refl)
 placed Idiv = (1, lit< tt, refl)
 placed Imul = (2, lit< tt, refl)
@@ -82,5 +85,43 @@ first m =
     let same = ap (λ l. get_or l p.0 None) each_first in
     ap (λ n. spelled_in mnemonics (spelling n)) (sym p.2) ∙ sym at ∙ same ∙ here ∙ ap Some p.2
 
-pub spelled_once : (m n : Mnemonic) → spelling m ≡ spelling n → m ≡ n
+spelled_once : (m n : Mnemonic) → spelling m ≡ spelling n → m ≡ n
 spelled_once m n e = let same = sym (first m) ∙ ap (spelled_in mnemonics) e ∙ first n in cc
+
+-- the columns of the table
+abbrev pub named : List Row → List Mnemonic
+named rows = map (λ row. row.0) rows
+
+abbrev pub spelled : List Row → List (List ℕ)
+spelled rows = map (λ row. row.1.now) rows
+
+-- what a search of the rows for a word finds
+abbrev Finds : List Row → List ℕ → Option (Bor Row) → Type 0
+Finds rows word r =
+    MatchOption r
+    (AllWithin (λ row. row.1.now ≡ word → ⊥) rows 0 (length rows))
+    (λ x. (x.now.1.now ≡ word) × (i : ℕ) × (i < length rows) × HoldsAt (λ row. row ≡ x.now) rows i × AllWithin (λ row. row.1.now ≡ word → ⊥) rows 0 i)
+
+a_row : (rows : List Row) → named rows ≡ mnemonics → Row
+a_row [] names = absurd (let long = ap length names in omega arith)
+a_row (row ∷ rows) names = row
+
+module _ (rows : List Row) (names : named rows ≡ mnemonics) (spellings : spelled rows ≡ map spelling mnemonics) where
+  row_spelled : (k : ℕ) (d : Row) → k < length rows → (get_or rows k d).1.now ≡ spelling (get_or rows k d).0
+  row_spelled k d h =
+      sym (get_or-map (λ (row : Row). row.1.now) rows k d [] h)
+      ∙ ap (λ l. get_or l k []) (spellings ∙ ap (map spelling) (sym names))
+      ∙ get_or-map spelling (named rows) k d.0 [] (subst (λ n. k < n) (sym (length-map rows (λ row. row.0))) h)
+      ∙ ap spelling (get_or-map (λ (row : Row). row.0) rows k d d.0 h)
+
+  pub found : (word : List ℕ) (r : Option (Bor Row)) → Finds rows word r → Spells word (option_map (λ x. x.now.0) r)
+  found word None none = λ m same.
+      let p = placed m in
+      let d = a_row rows names in
+      let h : p.0 < length rows = subst (λ n. p.0 < n) (ap length (sym names) ∙ length-map rows (λ row. row.0)) p.1 in
+      let name : (get_or rows p.0 d).0 ≡ m = sym (get_or-map (λ (row : Row). row.0) rows p.0 d Iadd h) ∙ ap (λ l. get_or l p.0 Iadd) names ∙ p.2 in
+      none p.0 d (omega arith) h (row_spelled p.0 d h ∙ ap spelling name ∙ same)
+  found word (Some x) one =
+      let at = one.3 x.now in
+      let here : spelling x.now.0 ≡ word = ap (λ (row : Row). spelling row.0) (sym at) ∙ sym (row_spelled one.1 x.now one.2) ∙ ap (λ (row : Row). row.1.now) at ∙ one.0 in
+      (here, λ n e. spelled_once n _ (e ∙ sym here))

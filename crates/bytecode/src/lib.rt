@@ -13,4 +13,4 @@ pub use instruction::{
     Comparison, Constant, Conversion, Direction, Flow, Instruction, Operator, PrintType, ReadType,
 };
 pub use kind::{Kind, Number};
-pub use mnemonic::Mnemonic;
+pub use mnemonic::{Mnemonic, UnknownMnemonic};

@@ -1,11 +1,14 @@
-ghost use Rattle.std.specs.Prelude.{◌≡◌};
+ghost use Rattle.std.specs.Prelude.{◌≡◌, Some};
+ghost use Rattle.std.specs.Result.{result_ok};
 ghost use Rattle.bytecode.specs.Mnemonics.{Spells, spelling, table_effect};
 
 use crate::effect::Effect;
 use crate::effect::Effect::{Fixed, Rearranges};
 use crate::effect::Takes::{Nothing, One, Two};
 use crate::kind::Kind;
+use crate::mnemonic::Mnemonic::*;
 use operands::StackOp;
+use std::fmt;
 
 /// The 53 mnemonics. `invokevirtual`, which prints, is none of them.
 #[derive(Clone, Copy)]
@@ -65,204 +68,110 @@ pub enum Mnemonic {
     Lstore,
 }
 
-/// All mnemonics, in the order of the enum.
-static MNEMONICS: [Mnemonic; 53] = [
-    Mnemonic::Iadd,
-    Mnemonic::Idiv,
-    Mnemonic::Imul,
-    Mnemonic::Ineg,
-    Mnemonic::Irem,
-    Mnemonic::Ishl,
-    Mnemonic::Ishr,
-    Mnemonic::Isub,
-    Mnemonic::Ladd,
-    Mnemonic::Ldiv,
-    Mnemonic::Lmul,
-    Mnemonic::Lneg,
-    Mnemonic::Lrem,
-    Mnemonic::Lshl,
-    Mnemonic::Lshr,
-    Mnemonic::Lsub,
-    Mnemonic::LdcW,
-    Mnemonic::Ldc2W,
-    Mnemonic::Sipush,
-    Mnemonic::Goto,
-    Mnemonic::IfIcmpeq,
-    Mnemonic::IfIcmpge,
-    Mnemonic::IfIcmpgt,
-    Mnemonic::IfIcmple,
-    Mnemonic::IfIcmplt,
-    Mnemonic::IfIcmpne,
-    Mnemonic::Ifeq,
-    Mnemonic::Ifge,
-    Mnemonic::Ifgt,
-    Mnemonic::Ifle,
-    Mnemonic::Iflt,
-    Mnemonic::Ifne,
-    Mnemonic::Ireturn,
-    Mnemonic::Lcmp,
-    Mnemonic::Lreturn,
-    Mnemonic::Nop,
-    Mnemonic::Return,
-    Mnemonic::I2c,
-    Mnemonic::I2s,
-    Mnemonic::I2l,
-    Mnemonic::L2i,
-    Mnemonic::Dup,
-    Mnemonic::Dup2,
-    Mnemonic::Pop,
-    Mnemonic::Pop2,
-    Mnemonic::Swap,
-    Mnemonic::Getstatic,
-    Mnemonic::Invokestatic,
-    Mnemonic::Putstatic,
-    Mnemonic::Iload,
-    Mnemonic::Istore,
-    Mnemonic::Lload,
-    Mnemonic::Lstore,
-];
-
-/// How each is spelled, in that order.
-static SPELLINGS: [&[u8]; 53] = [
-    b"iadd",
-    b"idiv",
-    b"imul",
-    b"ineg",
-    b"irem",
-    b"ishl",
-    b"ishr",
-    b"isub",
-    b"ladd",
-    b"ldiv",
-    b"lmul",
-    b"lneg",
-    b"lrem",
-    b"lshl",
-    b"lshr",
-    b"lsub",
-    b"ldc_w",
-    b"ldc2_w",
-    b"sipush",
-    b"goto",
-    b"if_icmpeq",
-    b"if_icmpge",
-    b"if_icmpgt",
-    b"if_icmple",
-    b"if_icmplt",
-    b"if_icmpne",
-    b"ifeq",
-    b"ifge",
-    b"ifgt",
-    b"ifle",
-    b"iflt",
-    b"ifne",
-    b"ireturn",
-    b"lcmp",
-    b"lreturn",
-    b"nop",
-    b"return",
-    b"i2c",
-    b"i2s",
-    b"i2l",
-    b"l2i",
-    b"dup",
-    b"dup2",
-    b"pop",
-    b"pop2",
-    b"swap",
-    b"getstatic",
-    b"invokestatic",
-    b"putstatic",
-    b"iload",
-    b"istore",
-    b"lload",
-    b"lstore",
-];
-
 const I: Kind = Kind::Int;
 
 const J: Kind = Kind::Long;
 
-/// What each mnemonic does to the operand stack, in that order: none where its operand decides that.
-static EFFECTS: [Option<Effect>; 53] = [
-    Some(Fixed(Two(I, I), Some(I))), // iadd
-    Some(Fixed(Two(I, I), Some(I))), // idiv
-    Some(Fixed(Two(I, I), Some(I))), // imul
-    Some(Fixed(One(I), Some(I))), // ineg
-    Some(Fixed(Two(I, I), Some(I))), // irem
-    Some(Fixed(Two(I, I), Some(I))), // ishl
-    Some(Fixed(Two(I, I), Some(I))), // ishr
-    Some(Fixed(Two(I, I), Some(I))), // isub
-    Some(Fixed(Two(J, J), Some(J))), // ladd
-    Some(Fixed(Two(J, J), Some(J))), // ldiv
-    Some(Fixed(Two(J, J), Some(J))), // lmul
-    Some(Fixed(One(J), Some(J))), // lneg
-    Some(Fixed(Two(J, J), Some(J))), // lrem
-    Some(Fixed(Two(J, I), Some(J))), // lshl
-    Some(Fixed(Two(J, I), Some(J))), // lshr
-    Some(Fixed(Two(J, J), Some(J))), // lsub
-    None, // ldc_w
-    Some(Fixed(Nothing, Some(J))), // ldc2_w
-    Some(Fixed(Nothing, Some(I))), // sipush
-    Some(Fixed(Nothing, None)), // goto
-    Some(Fixed(Two(I, I), None)), // if_icmpeq
-    Some(Fixed(Two(I, I), None)), // if_icmpge
-    Some(Fixed(Two(I, I), None)), // if_icmpgt
-    Some(Fixed(Two(I, I), None)), // if_icmple
-    Some(Fixed(Two(I, I), None)), // if_icmplt
-    Some(Fixed(Two(I, I), None)), // if_icmpne
-    Some(Fixed(One(I), None)), // ifeq
-    Some(Fixed(One(I), None)), // ifge
-    Some(Fixed(One(I), None)), // ifgt
-    Some(Fixed(One(I), None)), // ifle
-    Some(Fixed(One(I), None)), // iflt
-    Some(Fixed(One(I), None)), // ifne
-    Some(Fixed(One(I), None)), // ireturn
-    Some(Fixed(Two(J, J), Some(I))), // lcmp
-    Some(Fixed(One(J), None)), // lreturn
-    Some(Fixed(Nothing, None)), // nop
-    Some(Fixed(Nothing, None)), // return
-    Some(Fixed(One(I), Some(I))), // i2c
-    Some(Fixed(One(I), Some(I))), // i2s
-    Some(Fixed(One(I), Some(J))), // i2l
-    Some(Fixed(One(J), Some(I))), // l2i
-    Some(Rearranges(StackOp::Dup)), // dup
-    Some(Rearranges(StackOp::Dup2)), // dup2
-    Some(Rearranges(StackOp::Pop)), // pop
-    Some(Rearranges(StackOp::Pop2)), // pop2
-    Some(Rearranges(StackOp::Swap)), // swap
-    None, // getstatic
-    None, // invokestatic
-    None, // putstatic
-    Some(Fixed(Nothing, Some(I))), // iload
-    Some(Fixed(One(I), None)), // istore
-    Some(Fixed(Nothing, Some(J))), // lload
-    Some(Fixed(One(J), None)), // lstore
+/// A mnemonic, how it is spelled, and what it does to the operand stack: none where its operand decides that.
+struct Row(Mnemonic, &'static str, Option<Effect>);
+
+/// The rows of all mnemonics, in the order of the enum.
+// Of a `const` the check does not find by itself what stands at an index.
+static TABLE: [Row; 53] = [
+    Row(Iadd, "iadd", Some(Fixed(Two(I, I), Some(I)))),
+    Row(Idiv, "idiv", Some(Fixed(Two(I, I), Some(I)))),
+    Row(Imul, "imul", Some(Fixed(Two(I, I), Some(I)))),
+    Row(Ineg, "ineg", Some(Fixed(One(I), Some(I)))),
+    Row(Irem, "irem", Some(Fixed(Two(I, I), Some(I)))),
+    Row(Ishl, "ishl", Some(Fixed(Two(I, I), Some(I)))),
+    Row(Ishr, "ishr", Some(Fixed(Two(I, I), Some(I)))),
+    Row(Isub, "isub", Some(Fixed(Two(I, I), Some(I)))),
+    Row(Ladd, "ladd", Some(Fixed(Two(J, J), Some(J)))),
+    Row(Ldiv, "ldiv", Some(Fixed(Two(J, J), Some(J)))),
+    Row(Lmul, "lmul", Some(Fixed(Two(J, J), Some(J)))),
+    Row(Lneg, "lneg", Some(Fixed(One(J), Some(J)))),
+    Row(Lrem, "lrem", Some(Fixed(Two(J, J), Some(J)))),
+    Row(Lshl, "lshl", Some(Fixed(Two(J, I), Some(J)))),
+    Row(Lshr, "lshr", Some(Fixed(Two(J, I), Some(J)))),
+    Row(Lsub, "lsub", Some(Fixed(Two(J, J), Some(J)))),
+    Row(LdcW, "ldc_w", None),
+    Row(Ldc2W, "ldc2_w", Some(Fixed(Nothing, Some(J)))),
+    Row(Sipush, "sipush", Some(Fixed(Nothing, Some(I)))),
+    Row(Goto, "goto", Some(Fixed(Nothing, None))),
+    Row(IfIcmpeq, "if_icmpeq", Some(Fixed(Two(I, I), None))),
+    Row(IfIcmpge, "if_icmpge", Some(Fixed(Two(I, I), None))),
+    Row(IfIcmpgt, "if_icmpgt", Some(Fixed(Two(I, I), None))),
+    Row(IfIcmple, "if_icmple", Some(Fixed(Two(I, I), None))),
+    Row(IfIcmplt, "if_icmplt", Some(Fixed(Two(I, I), None))),
+    Row(IfIcmpne, "if_icmpne", Some(Fixed(Two(I, I), None))),
+    Row(Ifeq, "ifeq", Some(Fixed(One(I), None))),
+    Row(Ifge, "ifge", Some(Fixed(One(I), None))),
+    Row(Ifgt, "ifgt", Some(Fixed(One(I), None))),
+    Row(Ifle, "ifle", Some(Fixed(One(I), None))),
+    Row(Iflt, "iflt", Some(Fixed(One(I), None))),
+    Row(Ifne, "ifne", Some(Fixed(One(I), None))),
+    Row(Ireturn, "ireturn", Some(Fixed(One(I), None))),
+    Row(Lcmp, "lcmp", Some(Fixed(Two(J, J), Some(I)))),
+    Row(Lreturn, "lreturn", Some(Fixed(One(J), None))),
+    Row(Nop, "nop", Some(Fixed(Nothing, None))),
+    Row(Return, "return", Some(Fixed(Nothing, None))),
+    Row(I2c, "i2c", Some(Fixed(One(I), Some(I)))),
+    Row(I2s, "i2s", Some(Fixed(One(I), Some(I)))),
+    Row(I2l, "i2l", Some(Fixed(One(I), Some(J)))),
+    Row(L2i, "l2i", Some(Fixed(One(J), Some(I)))),
+    Row(Dup, "dup", Some(Rearranges(StackOp::Dup))),
+    Row(Dup2, "dup2", Some(Rearranges(StackOp::Dup2))),
+    Row(Pop, "pop", Some(Rearranges(StackOp::Pop))),
+    Row(Pop2, "pop2", Some(Rearranges(StackOp::Pop2))),
+    Row(Swap, "swap", Some(Rearranges(StackOp::Swap))),
+    Row(Getstatic, "getstatic", None),
+    Row(Invokestatic, "invokestatic", None),
+    Row(Putstatic, "putstatic", None),
+    Row(Iload, "iload", Some(Fixed(Nothing, Some(I)))),
+    Row(Istore, "istore", Some(Fixed(One(I), None))),
+    Row(Lload, "lload", Some(Fixed(Nothing, Some(J)))),
+    Row(Lstore, "lstore", Some(Fixed(One(J), None))),
 ];
 
 impl Mnemonic {
-    /// The mnemonic that is spelled so.
-    pub fn from_spelling(word: &[u8]) -> Option<Mnemonic>
-        ensures { Spells word.now result }
-    {
-        for mnemonic in &MNEMONICS {
-            if mnemonic.spelling() == word {
-                return Some(*mnemonic);
-            }
-        }
-        None
-    }
-
-    pub fn spelling(self) -> &'static [u8]
+    pub fn spelling(self) -> &'static str
         ensures { result.now ≡ spelling self }
     {
-        SPELLINGS[self as usize]
+        TABLE[self as usize].1
     }
 
     /// What it takes from the operand stack and leaves on it; none where its operand decides that.
     pub fn effect(self) -> Option<Effect>
         ensures { result ≡ table_effect self }
     {
-        EFFECTS[self as usize]
+        TABLE[self as usize].2
+    }
+}
+
+/// A word that is no mnemonic.
+#[derive(Clone, Copy, Debug, PartialEq, Eq)]
+pub struct UnknownMnemonic;
+
+/// The mnemonic that is spelled so.
+impl TryFrom<&[u8]> for Mnemonic {
+    type Error = UnknownMnemonic;
+
+    ghost try_from_gives = { λ word r. Spells word.now (result_ok r) };
+
+    fn try_from(word: &[u8]) -> Result<Mnemonic, UnknownMnemonic> {
+        TABLE
+            .iter()
+            .find(|row| row.1.as_bytes() == word)
+            .map(|row| row.0)
+            .ok_or(UnknownMnemonic)
+    }
+}
+
+/// The mnemonic's spelling.
+impl fmt::Display for Mnemonic {
+    ghost output = { λ mnemonic. Some (spelling mnemonic) };
+
+    fn fmt<W: fmt::Write>(&self, f: &mut fmt::Formatter<W>) -> fmt::Result {
+        f.write_str(self.spelling())
     }
 }

@@ -6,7 +6,7 @@ use crate::kind::Number;
 mod parsing;
 
 /// The type of a field or a parameter, by its letter. All but `Long` are held as an I.
-#[derive(Clone, Copy)]
+#[derive(Clone, Copy, Debug, PartialEq, Eq)]
 pub enum FieldType {
     /// `C`
     Char,
@@ -55,7 +55,7 @@ impl FieldType {
 }
 
 /// What a method returns: nothing, letter `V`, or a value.
-#[derive(Clone, Copy)]
+#[derive(Clone, Copy, Debug, PartialEq, Eq)]
 pub enum ReturnType {
     Void,
     Value(FieldType),
@@ -93,7 +93,7 @@ impl ReturnType {
 }
 
 /// A method's parameters, which take at most 16 registers, and what it returns.
-#[derive(Clone, Copy)]
+#[derive(Clone, Copy, Debug, PartialEq, Eq)]
 pub struct Descriptor {
     parameters: [FieldType; 16],
     /// How many of them there are.

@@ -2,7 +2,7 @@ use crate::kind::Kind;
 use operands::StackOp;
 
 /// What an instruction takes from the operand stack: the kinds of the values, the last one's from the top.
-#[derive(Clone, Copy)]
+#[derive(Clone, Copy, Debug, PartialEq, Eq)]
 pub enum Takes {
     Nothing,
     One(Kind),

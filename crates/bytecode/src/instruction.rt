@@ -9,7 +9,7 @@ use crate::mnemonic::Mnemonic;
 use operands::StackOp;
 
 /// What arithmetic with two operands computes.
-#[derive(Clone, Copy)]
+#[derive(Clone, Copy, Debug, PartialEq, Eq)]
 pub enum Operator {
     Add,
     Subtract,
@@ -19,14 +19,14 @@ pub enum Operator {
 }
 
 /// Which way a shift goes. A shift to the right keeps the sign.
-#[derive(Clone, Copy)]
+#[derive(Clone, Copy, Debug, PartialEq, Eq)]
 pub enum Direction {
     Left,
     Right,
 }
 
 /// What a number is converted from and to.
-#[derive(Clone, Copy)]
+#[derive(Clone, Copy, Debug, PartialEq, Eq)]
 pub enum Conversion {
     IntToChar,
     IntToShort,
@@ -35,7 +35,7 @@ pub enum Conversion {
 }
 
 /// How a jump compares a number with another, or with zero.
-#[derive(Clone, Copy)]
+#[derive(Clone, Copy, Debug, PartialEq, Eq)]
 pub enum Comparison {
     Equal,
     GreaterOrEqual,
@@ -46,7 +46,7 @@ pub enum Comparison {
 }
 
 /// A constant to push.
-#[derive(Clone, Copy)]
+#[derive(Clone, Copy, Debug, PartialEq, Eq)]
 pub enum Constant {
     /// `sipush`: an I that is given in 16 bits.
     Short(i16),
@@ -59,7 +59,7 @@ pub enum Constant {
 }
 
 /// What a print shows. A character is an I on the stack.
-#[derive(Clone, Copy)]
+#[derive(Clone, Copy, Debug, PartialEq, Eq)]
 pub enum PrintType {
     Char,
     Int,
@@ -68,7 +68,7 @@ pub enum PrintType {
 }
 
 /// What a reading block reads. A character is an I on the stack.
-#[derive(Clone, Copy)]
+#[derive(Clone, Copy, Debug, PartialEq, Eq)]
 pub enum ReadType {
     Char,
     Int,
@@ -256,7 +256,7 @@ fn stack_mnemonic(op: StackOp) -> Mnemonic
 }
 
 /// Which instructions can follow another in its method.
-#[derive(Clone, Copy)]
+#[derive(Clone, Copy, Debug, PartialEq, Eq)]
 pub enum Flow {
     /// The next one.
     Next,

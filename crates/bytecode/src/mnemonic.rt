@@ -11,7 +11,7 @@ use operands::StackOp;
 use std::fmt;
 
 /// The 53 mnemonics. `invokevirtual`, which prints, is none of them.
-#[derive(Clone, Copy)]
+#[derive(Clone, Copy, Debug, PartialEq, Eq)]
 pub enum Mnemonic {
     Iadd,
     Idiv,

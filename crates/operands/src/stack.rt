@@ -17,7 +17,7 @@ pub trait Cell: Copy {
 }
 
 /// What rearranges a stack, whatever the values are.
-#[derive(Clone, Copy)]
+#[derive(Clone, Copy, Debug, PartialEq, Eq)]
 pub enum StackOp {
     Dup,
     Dup2,

@@ -76,7 +76,7 @@ pub enum ReadType {
 }
 
 /// An instruction with its operand. Fields, methods and jumps' targets are numbers of table rows.
-#[derive(Clone, Copy)]
+#[derive(Clone, Copy, Debug, PartialEq, Eq)]
 pub enum Instruction {
     /// `nop`
     Nop,

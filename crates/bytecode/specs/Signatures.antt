@@ -1,9 +1,8 @@
 -- What a descriptor that was read says. Assumes nothing.
-use Rattle.std.specs.Prelude.{◌≡◌, ℕ, ◌≤◌, List, [], ◌∷◌, take, Some, None, Option, ◌≢◌}
-use Rattle.bytecode.specs.Descriptors.{Signature, letter, registers_of, return_letter, spelled}
+use Rattle.std.specs.Prelude.{◌≡◌, ℕ, ◌≤◌, List, length, map, take, Some, None, Option, ◌≢◌}
+use Rattle.bytecode.specs.Descriptors.{Signature, letter, registers_of, spelled}
 use Rattle.bytecode.specs.declared.descriptor.Descriptor.{Descriptor}
 use Rattle.bytecode.specs.declared.descriptor.FieldType.{FieldType}
-use Rattle.bytecode.specs.declared.descriptor.ReturnType.{ReturnType}
 
 abbrev pub signature_of : Descriptor → Signature
 signature_of d = record { parameters = take d.count d.parameters; result = d.result }
@@ -14,12 +13,7 @@ abbrev pub Reads : List ℕ → Option Descriptor → Type 0
 Reads text (Some d) = spelled (signature_of d) ≡ text
 Reads text None = (s : Signature) → registers_of s.parameters ≤ 16 → spelled s ≢ text
 
--- `Begins rest r`: the rest of a text begins with the letter of r; where r is none, it begins with no letter of a type.
-abbrev pub Begins : List ℕ → Option FieldType → Type 0
-Begins rest (Some t) = (more : List ℕ) × (rest ≡ letter t ∷ more)
-Begins rest None = (t : FieldType) (more : List ℕ) → rest ≢ letter t ∷ more
-
--- `Ends rest r`: the rest of a text is a closing parenthesis and the letter of r; where r is none, it is that for no type.
-abbrev pub Ends : List ℕ → Option ReturnType → Type 0
-Ends rest (Some t) = rest ≡ 41 ∷ return_letter t ∷ []
-Ends rest None = (t : ReturnType) → rest ≢ 41 ∷ return_letter t ∷ []
+-- `StandFor letters r`: the first types of r have these letters; where r is none, no more than 16 types have them.
+abbrev pub StandFor : List ℕ → Option (List FieldType) → Type 0
+StandFor letters (Some ts) = map letter (take (length letters) ts) ≡ letters
+StandFor letters None = (ts : List FieldType) → length ts ≤ 16 → map letter ts ≢ letters

@@ -1,7 +1,10 @@
-ghost use Rattle.std.specs.Prelude.{◌≡◌, ◌≤◌, take};
+ghost use Rattle.std.specs.Prelude.{◌≡◌, ◌≤◌, [], ◌∷◌, Some, take};
+ghost use Rattle.std.specs.Result.{result_ok};
 ghost use Rattle.bytecode.specs.Descriptors.{LetterOf, letter, number_of, registers_of, return_letter, return_number};
 
 use crate::kind::Number;
+use crate::misspelled::Misspelled;
+use std::fmt;
 
 mod parsing;
 
@@ -19,31 +22,8 @@ pub enum FieldType {
 }
 
 impl FieldType {
-    /// The type that a letter stands for.
-    pub fn from_letter(byte: u8) -> Option<FieldType>
-        ensures { LetterOf letter byte result }
-    {
-        match byte {
-            b'C' => Some(FieldType::Char),
-            b'S' => Some(FieldType::Short),
-            b'I' => Some(FieldType::Int),
-            b'J' => Some(FieldType::Long),
-            _ => None,
-        }
-    }
-
-    pub fn letter(self) -> u8
-        ensures { result ≡ letter self }
-    {
-        match self {
-            FieldType::Char => b'C',
-            FieldType::Short => b'S',
-            FieldType::Int => b'I',
-            FieldType::Long => b'J',
-        }
-    }
-
     /// The kind of number that a value of this type is held as.
+    // No `From`: three types have the same, so the one is not the other in another form.
     pub fn number(self) -> Number
         ensures { result ≡ number_of self }
     {
@@ -54,7 +34,48 @@ impl FieldType {
     }
 }
 
+/// The type that a letter stands for.
+impl TryFrom<u8> for FieldType {
+    type Error = Misspelled;
+
+    ghost try_from_gives = { λ byte r. LetterOf letter byte (result_ok r) };
+
+    fn try_from(byte: u8) -> Result<FieldType, Misspelled> {
+        match byte {
+            b'C' => Ok(FieldType::Char),
+            b'S' => Ok(FieldType::Short),
+            b'I' => Ok(FieldType::Int),
+            b'J' => Ok(FieldType::Long),
+            _ => Err(Misspelled),
+        }
+    }
+}
+
+/// The type's letter.
+impl From<FieldType> for u8 {
+    ghost from_gives = { λ field byte. byte ≡ letter field };
+
+    fn from(field: FieldType) -> u8 {
+        match field {
+            FieldType::Char => b'C',
+            FieldType::Short => b'S',
+            FieldType::Int => b'I',
+            FieldType::Long => b'J',
+        }
+    }
+}
+
+/// The type's letter.
+impl fmt::Display for FieldType {
+    ghost output = { λ field. Some (letter field ∷ []) };
+
+    fn fmt<W: fmt::Write>(&self, f: &mut fmt::Formatter<W>) -> fmt::Result {
+        f.write_char(char::from(u8::from(*self)))
+    }
+}
+
 /// What a method returns: nothing, letter `V`, or a value.
+// Of the shape of an `Option`, but nothing is a type here too: it is read from a letter and printed as one.
 #[derive(Clone, Copy, Debug, PartialEq, Eq)]
 pub enum ReturnType {
     Void,
@@ -62,25 +83,6 @@ pub enum ReturnType {
 }
 
 impl ReturnType {
-    /// What a letter stands for after the parameters.
-    pub fn from_letter(byte: u8) -> Option<ReturnType>
-        ensures { LetterOf return_letter byte result }
-    {
-        match byte {
-            b'V' => Some(ReturnType::Void),
-            _ => Some(ReturnType::Value(FieldType::from_letter(byte)?)),
-        }
-    }
-
-    pub fn letter(self) -> u8
-        ensures { result ≡ return_letter self }
-    {
-        match self {
-            ReturnType::Void => b'V',
-            ReturnType::Value(value) => value.letter(),
-        }
-    }
-
     /// The kind of number that a method leaves for its caller; none where it returns nothing.
     pub fn number(self) -> Option<Number>
         ensures { result ≡ return_number self }
@@ -92,8 +94,44 @@ impl ReturnType {
     }
 }
 
+/// What a letter stands for after the parameters.
+impl TryFrom<u8> for ReturnType {
+    type Error = Misspelled;
+
+    ghost try_from_gives = { λ byte r. LetterOf return_letter byte (result_ok r) };
+
+    fn try_from(byte: u8) -> Result<ReturnType, Misspelled> {
+        match byte {
+            b'V' => Ok(ReturnType::Void),
+            _ => FieldType::try_from(byte).map(ReturnType::Value),
+        }
+    }
+}
+
+/// The letter of what is returned.
+impl From<ReturnType> for u8 {
+    ghost from_gives = { λ returned byte. byte ≡ return_letter returned };
+
+    fn from(returned: ReturnType) -> u8 {
+        match returned {
+            ReturnType::Void => b'V',
+            ReturnType::Value(value) => u8::from(value),
+        }
+    }
+}
+
+/// The letter of what is returned.
+impl fmt::Display for ReturnType {
+    ghost output = { λ returned. Some (return_letter returned ∷ []) };
+
+    fn fmt<W: fmt::Write>(&self, f: &mut fmt::Formatter<W>) -> fmt::Result {
+        let letter = u8::from(*self);
+        f.write_char(char::from(letter))
+    }
+}
+
 /// A method's parameters, which take at most 16 registers, and what it returns.
-#[derive(Clone, Copy, Debug, PartialEq, Eq)]
+#[derive(Clone, Copy, Debug)]
 pub struct Descriptor {
     parameters: [FieldType; 16],
     /// How many of them there are.

@@ -5,6 +5,7 @@ mod descriptor;
 mod effect;
 mod instruction;
 mod kind;
+mod misspelled;
 mod mnemonic;
 
 pub use descriptor::{Descriptor, FieldType, ReturnType};
@@ -13,4 +14,5 @@ pub use instruction::{
     Comparison, Constant, Conversion, Direction, Flow, Instruction, Operator, PrintType, ReadType,
 };
 pub use kind::{Kind, Number};
-pub use mnemonic::{Mnemonic, UnknownMnemonic};
+pub use misspelled::Misspelled;
+pub use mnemonic::Mnemonic;

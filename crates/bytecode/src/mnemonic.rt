@@ -6,6 +6,7 @@ use crate::effect::Effect;
 use crate::effect::Effect::{Fixed, Rearranges};
 use crate::effect::Takes::{Nothing, One, Two};
 use crate::kind::Kind;
+use crate::misspelled::Misspelled;
 use crate::mnemonic::Mnemonic::*;
 use operands::StackOp;
 use std::fmt;
@@ -148,22 +149,18 @@ impl Mnemonic {
     }
 }
 
-/// A word that is no mnemonic.
-#[derive(Clone, Copy, Debug, PartialEq, Eq)]
-pub struct UnknownMnemonic;
-
 /// The mnemonic that is spelled so.
 impl TryFrom<&[u8]> for Mnemonic {
-    type Error = UnknownMnemonic;
+    type Error = Misspelled;
 
     ghost try_from_gives = { λ word r. Spells word.now (result_ok r) };
 
-    fn try_from(word: &[u8]) -> Result<Mnemonic, UnknownMnemonic> {
+    fn try_from(word: &[u8]) -> Result<Mnemonic, Misspelled> {
         TABLE
             .iter()
             .find(|row| row.1.as_bytes() == word)
             .map(|row| row.0)
-            .ok_or(UnknownMnemonic)
+            .ok_or(Misspelled)
     }
 }
 

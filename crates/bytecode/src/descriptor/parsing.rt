@@ -1,41 +1,65 @@
-ghost use Rattle.std.specs.Prelude.{◌≡◌, drop};
+ghost use Rattle.std.specs.Prelude.{◌≡◌, ◌≤◌, length};
+ghost use Rattle.std.specs.Result.{result_ok};
 ghost use Rattle.bytecode.specs.Descriptors.{SpellsOnce, registers_of};
-ghost use Rattle.bytecode.specs.Signatures.{Begins, Ends, Reads, signature_of};
+ghost use Rattle.bytecode.specs.Signatures.{Reads, StandFor, signature_of};
 
 use crate::descriptor::{Descriptor, FieldType, ReturnType};
+use crate::misspelled::Misspelled;
 
 /// The most registers that the parameters of a method may take.
 const MOST: usize = 16;
 
-impl Descriptor {
-    /// Reads a descriptor such as `(IJ)V`: the letters of the parameters in parentheses, and the letter of the result. None
-    /// where the text is no descriptor, or its parameters take more than 16 registers, of which a `J` takes two.
-    pub fn parse(text: &[u8]) -> Option<Descriptor>
-        ensures value { Reads text.now result }
-        ensures once { SpellsOnce }
-    {
-        if text.is_empty() || text[0] != b'(' {
-            return None;
+/// Reads a descriptor such as `(IJ)V`: the letters of the parameters in parentheses, and the letter of the result. None
+/// where the text is no descriptor, or its parameters take more than 16 registers, of which a `J` takes two.
+impl TryFrom<&[u8]> for Descriptor {
+    type Error = Misspelled;
+
+    ghost try_from_gives = { λ text r. Reads text.now (result_ok r) × SpellsOnce };
+
+    fn try_from(text: &[u8]) -> Result<Descriptor, Misspelled> {
+        let [b'(', letters @ .., b')', returned] = text else {
+            return Err(Misspelled);
+        };
+        let result = ReturnType::try_from(*returned)?;
+        let parameters = types_of(letters)?;
+        let count = letters.len();
+        if registers_of(&parameters[..count]) > MOST {
+            return Err(Misspelled);
         }
-        let mut parameters = [FieldType::Int; 16];
-        let mut count = 0;
-        let mut registers = 0;
-        while let Some(parameter) = parameter_at(text, count + 1) {
-            registers += parameter.number().registers();
-            if registers > MOST {
-                return None;
-            }
-            parameters[count] = parameter;
-            count += 1;
-        }
-        let result = result_of(&text[count + 1..])?;
-        Some(Descriptor {
+        Ok(Descriptor {
             parameters,
             count,
             result,
         })
     }
+}
 
+/// The types that at most 16 letters stand for, and then others that mean nothing.
+fn types_of(letters: &[u8]) -> Result<[FieldType; 16], Misspelled>
+    ensures { StandFor letters.now (result_ok result) }
+{
+    let mut types = [FieldType::Int; 16];
+    if letters.len() > types.len() {
+        return Err(Misspelled);
+    }
+    for (place, letter) in letters.iter().enumerate() {
+        types[place] = FieldType::try_from(*letter)?;
+    }
+    Ok(types)
+}
+
+/// How many registers parameters take.
+fn registers_of(parameters: &[FieldType]) -> usize
+    requires { length parameters.now ≤ 16 }
+    ensures { result ≡ registers_of parameters.now }
+{
+    parameters
+        .iter()
+        .map(|parameter| parameter.number().registers())
+        .sum()
+}
+
+impl Descriptor {
     /// The types of the parameters, the first one first.
     pub fn parameters(&self) -> &[FieldType]
         ensures { result.now ≡ (signature_of self.now).parameters }
@@ -53,30 +77,6 @@ impl Descriptor {
     pub fn registers(&self) -> usize
         ensures { result ≡ registers_of (signature_of self.now).parameters }
     {
-        let mut sum = 0;
-        for parameter in self.parameters() {
-            sum += parameter.number().registers();
-        }
-        sum
+        registers_of(self.parameters())
     }
-}
-
-/// The parameter whose letter stands at a place; none where no parameter's letter does.
-fn parameter_at(text: &[u8], place: usize) -> Option<FieldType>
-    ensures { Begins (drop place text.now) result }
-{
-    if place >= text.len() {
-        return None;
-    }
-    FieldType::from_letter(text[place])
-}
-
-/// The result that a closing parenthesis and one letter spell, with nothing after them.
-fn result_of(rest: &[u8]) -> Option<ReturnType>
-    ensures { Ends rest.now result }
-{
-    if rest.len() != 2 || rest[0] != b')' {
-        return None;
-    }
-    ReturnType::from_letter(rest[1])
 }

@@ -1,5 +1,6 @@
 -- What the table says of a mnemonic is what the family of each instruction so written says. Assumes nothing.
-use Rattle.std.proofs.Common.{◌≡◌, Some, None, Option, refl, subst}
+use Rattle.std.proofs.Common.{◌≡◌, Some, None, Option, sym, refl, ◌∙◌, subst}
+use Rattle.std.specs.Option.{MatchOption}
 use Rattle.bytecode.specs.Instructions.{effect_by, effect_of, mnemonic_of}
 use Rattle.bytecode.specs.declared.effect.Effect.{Effect}
 use Rattle.bytecode.specs.declared.instruction.Comparison.TheVariants.{Equal, GreaterOrEqual, Greater, LessOrEqual, Less, NotEqual}
@@ -75,5 +76,7 @@ each Return = refl
 each (ReturnNumber Int) = refl
 each (ReturnNumber Long) = refl
 
-pub agrees : (i : Instruction) (e : Effect) → effect_by (mnemonic_of i) ≡ Some e → e ≡ effect_of i
-agrees i e says = subst (λ o. Agrees o (effect_of i)) says (each i)
+-- so an effect that the table gives, or else the operand, is the family's
+pub by_table : (i : Instruction) (o : Option Effect) (r : Effect) → o ≡ effect_by (mnemonic_of i) → MatchOption o (effect_by (mnemonic_of i) ≡ None → r ≡ effect_of i) (λ e. r ≡ e) → r ≡ effect_of i
+by_table i None r says operand = operand (sym says)
+by_table i (Some e) r says same = same ∙ subst (λ o. Agrees o (effect_of i)) (sym says) (each i)

@@ -306,19 +306,9 @@ impl Instruction {
         ensures laws { TransferLaws }
         ensures examples { ExamplesHold }
     {
-        match self.table_effect() {
-            Some(effect) => effect,
-            None => self.operand_effect(),
-        }
-    }
-
-    fn table_effect(self) -> Option<Effect>
-        ensures { result ≡ effect_by (mnemonic_of self) }
-    {
-        match self.mnemonic() {
-            Some(mnemonic) => mnemonic.effect(),
-            None => None,
-        }
+        self.mnemonic()
+            .and_then(Mnemonic::effect)
+            .unwrap_or_else(|| self.operand_effect())
     }
 
     /// What the operand says, where the table leaves it open.

@@ -1,10 +1,15 @@
-use Rattle.std.proofs.Common.{sym, refl}
-use Rattle.bytecode.proofs.Agreeing.{agrees}
+use Rattle.std.proofs.Common.{◌≡◌, None, rules, tests}
+use Rattle.std.specs.Option.{MatchOption}
+use Rattle.bytecode.specs.Instructions.{effect_by, effect_of, mnemonic_of}
+use Rattle.bytecode.proofs.Agreeing.{by_table}
 use Rattle.bytecode.proofs.Transferring.{transfer_laws}
 use Rattle.bytecode.proofs.instruction.Instruction.effect.Goals as goal
 
-pub returns-in-Some : goal.returns-in-Some
-returns-in-Some c = record { value = agrees c.args.self _ (sym c.in-Some.ensures); laws = transfer_laws; examples = refl }
+pub returns-clause-value : goal.returns-clause-value
+returns-clause-value c =
+    let table : c.and_then.result ≡ effect_by (mnemonic_of c.args.self) = search (rules, tests) in
+    let cases : MatchOption c.and_then.result (effect_by (mnemonic_of c.args.self) ≡ None → c.unwrap_or_else.result ≡ effect_of c.args.self) (λ e. c.unwrap_or_else.result ≡ e) = search (rules, tests) in
+    by_table c.args.self c.and_then.result c.unwrap_or_else.result table cases
 
-pub returns-in-None : goal.returns-in-None
-returns-in-None c = record { value = c.operand_effect.ensures (sym c.in-None.ensures); laws = transfer_laws; examples = refl }
+pub returns-clause-laws : goal.returns-clause-laws
+returns-clause-laws c = transfer_laws

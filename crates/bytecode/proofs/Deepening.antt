@@ -1,5 +1,5 @@
 -- What lies below what an instruction takes is left as it is. Assumes nothing.
-use Rattle.std.proofs.Common.{◌≡◌, ℕ, Bool, cond, ◌&&◌, eqb, List, [], ◌∷◌, ◌++◌, Some, None, Option, sym, refl, ap, ◌∙◌, ⊎_elim, append_assoc, arith}
+use Rattle.std.proofs.Common.{◌≡◌, ℕ, Bool, cond, ◌&&◌, eqb, List, [], ◌∷◌, ◌++◌, Some, None, Option, sym, refl, ap, ◌∙◌, ⊎_elim, append_assoc}
 use Rattle.std.proofs.lemmas.Bool.{cases_Bool, cond-true, cond-false}
 use Rattle.operands.proofs.Storing.{when_some}
 use Rattle.operands.specs.Stacks.{rearranged, when}
@@ -10,10 +10,6 @@ use Rattle.bytecode.specs.Kinds.{slots}
 use Rattle.bytecode.specs.declared.effect.Effect.{Effect}
 use Rattle.bytecode.specs.declared.effect.Effect.TheVariants.{Fixed, Rearranges, GetsField, PutsField, Calls}
 use Rattle.bytecode.specs.declared.kind.Kind.{Kind}
-
--- nothing is not something
-none_some : {X Y : Type 0} (x : X) → None ≡ Some x → Y
-none_some x e = absurd (let z : ◌≡◌ {A = ℕ} 0 1 = cc in omega arith)
 
 module _ {C : Type 0} (size : C → ℕ) (more : List C) where
   -- where a test passes
@@ -46,34 +42,34 @@ under_one size x t (y ∷ more) e =
     cond-true _ _ _ w.0 ∙ ap (λ l. Some (l ++ y ∷ more)) w.1
 
 rearranged_deeper : {C : Type 0} (size : C → ℕ) (f : StackOp) (s t more : List C) → rearranged size f s ≡ Some t → rearranged size f (s ++ more) ≡ Some (t ++ more)
-rearranged_deeper size Dup [] t more e = none_some t e
+rearranged_deeper size Dup [] t more e = cc
 rearranged_deeper size Dup (x ∷ s) t more e = passes size more (eqb (size x) 1) (x ∷ x ∷ s) t (x ∷ x ∷ (s ++ more)) e refl
-rearranged_deeper size Dup2 [] t more e = none_some t e
+rearranged_deeper size Dup2 [] t more e = cc
 rearranged_deeper size Dup2 (x ∷ []) t more e = over_one size x t more e
 rearranged_deeper size Dup2 (x ∷ y ∷ s) t more e =
     either size more (eqb (size x) 2) (eqb (size x) 1 && eqb (size y) 1) (x ∷ x ∷ y ∷ s) (x ∷ y ∷ x ∷ y ∷ s) t (x ∷ x ∷ y ∷ (s ++ more)) (x ∷ y ∷ x ∷ y ∷ (s ++ more)) e refl refl
-rearranged_deeper size Pop [] t more e = none_some t e
+rearranged_deeper size Pop [] t more e = cc
 rearranged_deeper size Pop (x ∷ s) t more e = passes size more (eqb (size x) 1) s t (s ++ more) e refl
-rearranged_deeper size Pop2 [] t more e = none_some t e
+rearranged_deeper size Pop2 [] t more e = cc
 rearranged_deeper size Pop2 (x ∷ []) t more e = under_one size x t more e
 rearranged_deeper size Pop2 (x ∷ y ∷ s) t more e =
     either size more (eqb (size x) 2) (eqb (size x) 1 && eqb (size y) 1) (y ∷ s) s t (y ∷ (s ++ more)) (s ++ more) e refl refl
-rearranged_deeper size Swap [] t more e = none_some t e
-rearranged_deeper size Swap (x ∷ []) t more e = none_some t e
+rearranged_deeper size Swap [] t more e = cc
+rearranged_deeper size Swap (x ∷ []) t more e = cc
 rearranged_deeper size Swap (x ∷ y ∷ s) t more e =
     passes size more (eqb (size x) 1 && eqb (size y) 1) (y ∷ x ∷ s) t (y ∷ x ∷ (s ++ more)) e refl
 
 beneath_deeper : (ks s t more : List Kind) → beneath ks s ≡ Some t → beneath ks (s ++ more) ≡ Some (t ++ more)
 beneath_deeper [] s t more e = let same : s ≡ t = cc in ap (λ l. Some (l ++ more)) same
-beneath_deeper (k ∷ ks) [] t more e = none_some t e
+beneath_deeper (k ∷ ks) [] t more e = cc
 beneath_deeper (k ∷ ks) (x ∷ s) t more e =
     ⊎_elim
     (λ yes. cond-true _ _ _ yes ∙ beneath_deeper ks s t more (sym (cond-true (same_kind k x) (beneath ks s) None yes) ∙ e))
-    (λ no. none_some t (sym (cond-false (same_kind k x) (beneath ks s) None no) ∙ e))
+    (λ no. cc (sym (cond-false (same_kind k x) (beneath ks s) None no) ∙ e))
     (cases_Bool (same_kind k x))
 
 onto_some : (ks : List Kind) (o : Option (List Kind)) (t : List Kind) → onto ks o ≡ Some t → (s : List Kind) × (o ≡ Some s) × (ks ++ s ≡ t)
-onto_some ks None t e = none_some t e
+onto_some ks None t e = cc
 onto_some ks (Some s) t e = (s, refl, cc)
 
 exchanged_deeper : (takes leaves s t more : List Kind) → exchanged takes leaves s ≡ Some t → exchanged takes leaves (s ++ more) ≡ Some (t ++ more)

@@ -1,11 +1,11 @@
 -- A descriptor's letters determine it, and what the bytes of a text say of the signatures that are spelled so. Assumes
 -- nothing.
-use Rattle.std.proofs.Common.{◌≡◌, ℕ, ◌+◌, ◌-◌, ◌<◌, ◌≤◌, List, [], ◌∷◌, ◌++◌, map, length, get_or, take, drop, set, Some, None, Option, Result, Ok, Err, sym, refl, ap, ◌∙◌, subst, append_assoc, arith, length-drop, length-append}
+use Rattle.std.proofs.Common.{◌≡◌, ℕ, ◌+◌, ◌-◌, ◌<◌, ◌≤◌, List, [], ◌∷◌, ◌++◌, map, length, get_or, take, drop, set, None, Option, Result, Ok, Err, sym, refl, ap, ◌∙◌, subst, append_assoc, arith, length-append}
 use Rattle.std.proofs.Math.Seq.{get_or-append_seam}
 use Rattle.std.proofs.lemmas.List.{drop-drop, drop_all, drop_more, get_or-map, length-map, map_push, same_from_push, take-append-drop, take_more, take_more_set}
 use Rattle.std.specs.Result.{IsErr, result_ok}
 use Rattle.std.proofs.lemmas.List.Sums.{sum_by-cons}
-use Rattle.bytecode.specs.Descriptors.{LetterOf, Signature, SpellsOnce, letter, number_of, registers_of, return_letter, spelled}
+use Rattle.bytecode.specs.Descriptors.{Signature, SpellsOnce, letter, number_of, registers_of, return_letter, spelled}
 use Rattle.bytecode.specs.Kinds.{size}
 use Rattle.bytecode.specs.declared.descriptor.FieldType.{FieldType}
 use Rattle.bytecode.specs.declared.descriptor.FieldType.TheVariants.{Char, Short, Int, Long}

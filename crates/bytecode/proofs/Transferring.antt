@@ -1,5 +1,5 @@
 -- A frame stays a frame through an instruction, and the transfer is monotone. Assumes nothing.
-use Rattle.std.proofs.Common.{◌≡◌, ℕ, ◌≤◌, leb, List, ◌++◌, length, Some, None, Option, sym, refl, ap, ◌∙◌, subst, arith}
+use Rattle.std.proofs.Common.{◌≡◌, ◌≤◌, leb, List, ◌++◌, length, Some, None, Option, sym, refl, ap, ◌∙◌, subst}
 use Rattle.std.proofs.lemmas.Bool.{cond-true, leb-true, le-leb}
 use Rattle.bytecode.specs.Frames.{KindRegister, Frame, IsFrame, Links, stack_after, number_cells, where_some, hands_over, registers_after, framed, transfer, Below, over, TransferLaws}
 use Rattle.bytecode.specs.Instructions.{Use, plain, reads, writes, returns, effect_of, use_of}
@@ -16,8 +16,8 @@ use Rattle.operands.proofs.Storing.{when_some, int_at_within, long_at_within, st
 
 -- a frame that is made has its two parts, and its slots fit
 parts : (s : Option (List Kind)) (rs : Option (List KindRegister)) (g : Frame) → framed s rs ≡ Some g → (s ≡ Some g.stack) × (rs ≡ Some g.registers) × (slots_of slots g.stack ≤ 16)
-parts None rs g e = absurd (let z : ◌≡◌ {A = ℕ} 0 1 = cc in omega arith)
-parts (Some s) None g e = absurd (let z : ◌≡◌ {A = ℕ} 0 1 = cc in omega arith)
+parts None rs g e = cc
+parts (Some s) None g e = cc
 parts (Some s) (Some rs) g e =
     let w = when_some (leb (slots_of slots s) 16) record { stack = s; registers = rs } g e in
     let stack : s ≡ g.stack = ap (λ (f : Frame). f.stack) w.1 in
@@ -30,7 +30,7 @@ made s rs g stack registers fits =
 
 -- the registers
 is_there : {X Y : Type 0} (o : Option X) (y z : Y) → where_some o y ≡ Some z → (x : X) × (o ≡ Some x) × (y ≡ z)
-is_there None y z e = absurd (let w : ◌≡◌ {A = ℕ} 0 1 = cc in omega arith)
+is_there None y z e = cc
 is_there (Some x) y z e = (x, refl, cc)
 
 cells_paired : (k : Number) → Paired (number_cells k)

@@ -1,5 +1,5 @@
 use bytecode::{Descriptor, FieldType, Number, ReturnType};
-use std::io;
+use std::{fmt, io};
 
 /// Letters of types, and some that are none.
 static LETTERS: [u8; 9] = [b'C', b'S', b'I', b'J', b'V', b'c', b'Z', b'L', 0];
@@ -49,16 +49,13 @@ static TEXTS: [&str; 37] = [
 pub fn letters(rt: &HostRuntime) -> io::Result<()> {
     for byte in &LETTERS {
         print!(rt; "letter {byte}")?;
-        match FieldType::from_letter(*byte) {
-            Some(field) => {
-                let number = number_letter(field.number());
-                print!(rt; " field {} {number}", char::from(field.letter()))?;
-            }
-            None => print!(rt; " no field")?,
+        match FieldType::try_from(*byte) {
+            Ok(field) => print!(rt; " field {field} {}", ShownNumber(field.number()))?,
+            Err(_) => print!(rt; " no field")?,
         }
-        match ReturnType::from_letter(*byte) {
-            Some(result) => print_result(rt, result)?,
-            None => print!(rt; " no result")?,
+        match ReturnType::try_from(*byte) {
+            Ok(returned) => print!(rt; "{}", ShownResult(returned))?,
+            Err(_) => print!(rt; " no result")?,
         }
         println!(rt)?;
     }
@@ -69,9 +66,9 @@ pub fn letters(rt: &HostRuntime) -> io::Result<()> {
 pub fn texts(rt: &HostRuntime) -> io::Result<()> {
     for text in &TEXTS {
         print!(rt; "descriptor \"{text}\"")?;
-        match Descriptor::parse(text.as_bytes()) {
-            Some(descriptor) => print_descriptor(rt, &descriptor)?,
-            None => print!(rt; " none")?,
+        match Descriptor::try_from(text.as_bytes()) {
+            Ok(descriptor) => print_descriptor(rt, &descriptor)?,
+            Err(_) => print!(rt; " none")?,
         }
         println!(rt)?;
     }
@@ -81,23 +78,35 @@ pub fn texts(rt: &HostRuntime) -> io::Result<()> {
 fn print_descriptor(rt: &HostRuntime, descriptor: &Descriptor) -> io::Result<()> {
     print!(rt; " parameters ")?;
     for parameter in descriptor.parameters() {
-        print!(rt; "{}", char::from(parameter.letter()))?;
+        print!(rt; "{parameter}")?;
     }
-    print!(rt; " registers {}", descriptor.registers())?;
-    print_result(rt, descriptor.result())
+    let result = ShownResult(descriptor.result());
+    print!(rt; " registers {}{result}", descriptor.registers())
 }
 
-fn print_result(rt: &HostRuntime, returned: ReturnType) -> io::Result<()> {
-    print!(rt; " result {}", char::from(returned.letter()))?;
-    match returned.number() {
-        Some(number) => print!(rt; " {}", number_letter(number)),
-        None => Ok(()),
+/// The result of a method, as the test prints it: its letter, and the number that it is held as.
+#[derive(Clone, Copy)]
+struct ShownResult(ReturnType);
+
+impl fmt::Display for ShownResult {
+    fn fmt<W: fmt::Write>(&self, f: &mut fmt::Formatter<W>) -> fmt::Result {
+        write!(f, " result {}", self.0)?;
+        match self.0.number() {
+            Some(number) => write!(f, " {}", ShownNumber(number)),
+            None => Ok(()),
+        }
     }
 }
 
-fn number_letter(number: Number) -> &'static str {
-    match number {
-        Number::Int => "int",
-        Number::Long => "long",
+/// A kind of number, as the test prints it.
+#[derive(Clone, Copy)]
+struct ShownNumber(Number);
+
+impl fmt::Display for ShownNumber {
+    fn fmt<W: fmt::Write>(&self, f: &mut fmt::Formatter<W>) -> fmt::Result {
+        f.write_str(match self.0 {
+            Number::Int => "int",
+            Number::Long => "long",
+        })
     }
 }

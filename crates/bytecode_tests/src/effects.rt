@@ -1,35 +1,28 @@
-use bytecode::{Effect, Kind, Takes};
-use std::io;
+use bytecode::{Effect, Takes};
+use std::fmt;
 
-/// The letter of a kind.
-pub fn letter(kind: Kind) -> &'static str {
-    match kind {
-        Kind::Int => "I",
-        Kind::Long => "J",
-        Kind::Text => "T",
-        Kind::Output => "O",
-    }
-}
+/// An effect, as the test prints it: what it takes and leaves, each after a blank.
+#[derive(Clone, Copy)]
+pub struct ShownEffect(pub Effect);
 
-/// What an effect takes and leaves, after a blank.
-pub fn print_effect(rt: &HostRuntime, effect: Effect) -> io::Result<()> {
-    match effect {
-        Effect::Fixed(takes, leaves) => print_fixed(rt, takes, leaves),
-        Effect::Rearranges(_) => print!(rt; " rearranges"),
-        Effect::GetsField(field) => print!(rt; " gets field {field}"),
-        Effect::PutsField(field) => print!(rt; " puts field {field}"),
-        Effect::Calls(method) => print!(rt; " calls method {method}"),
-    }
-}
-
-fn print_fixed(rt: &HostRuntime, takes: Takes, leaves: Option<Kind>) -> io::Result<()> {
-    match takes {
-        Takes::Nothing => {}
-        Takes::One(top) => print!(rt; " takes {}", letter(top))?,
-        Takes::Two(below, top) => print!(rt; " takes {} {}", letter(below), letter(top))?,
-    }
-    match leaves {
-        Some(kind) => print!(rt; " leaves {}", letter(kind)),
-        None => Ok(()),
+impl fmt::Display for ShownEffect {
+    fn fmt<W: fmt::Write>(&self, f: &mut fmt::Formatter<W>) -> fmt::Result {
+        match self.0 {
+            Effect::Fixed(takes, leaves) => {
+                match takes {
+                    Takes::Nothing => {}
+                    Takes::One(top) => write!(f, " takes {top}")?,
+                    Takes::Two(below, top) => write!(f, " takes {below} {top}")?,
+                }
+                match leaves {
+                    Some(kind) => write!(f, " leaves {kind}"),
+                    None => Ok(()),
+                }
+            }
+            Effect::Rearranges(_) => write!(f, " rearranges"),
+            Effect::GetsField(field) => write!(f, " gets field {field}"),
+            Effect::PutsField(field) => write!(f, " puts field {field}"),
+            Effect::Calls(method) => write!(f, " calls method {method}"),
+        }
     }
 }

@@ -1,11 +1,10 @@
-use crate::effects::print_effect;
-use crate::mnemonics::print_spelling;
+use crate::effects::ShownEffect;
 use bytecode::{
     Comparison, Constant, Conversion, Direction, Flow, Instruction, Number, Operator, PrintType,
     ReadType,
 };
 use operands::StackOp;
-use std::io;
+use std::{fmt, io};
 
 /// Instructions of every sort.
 static CASES: [Instruction; 62] = [
@@ -81,21 +80,27 @@ pub fn cases(rt: &HostRuntime) -> io::Result<()> {
     for instruction in &CASES {
         print!(rt; "instruction ")?;
         match instruction.mnemonic() {
-            Some(mnemonic) => print_spelling(rt, mnemonic)?,
+            Some(mnemonic) => print!(rt; "{mnemonic}")?,
             None => print!(rt; "-")?,
         }
-        print_effect(rt, instruction.effect())?;
-        print_flow(rt, instruction.flow())?;
-        println!(rt)?;
+        let effect = ShownEffect(instruction.effect());
+        let flow = ShownFlow(instruction.flow());
+        println!(rt; "{effect}{flow}")?;
     }
     Ok(())
 }
 
-fn print_flow(rt: &HostRuntime, flow: Flow) -> io::Result<()> {
-    match flow {
-        Flow::Next => print!(rt; " then next"),
-        Flow::Jump(target) => print!(rt; " then {target}"),
-        Flow::Branch(target) => print!(rt; " then next or {target}"),
-        Flow::End => print!(rt; " then none"),
+/// Which instructions can follow, as the test prints it.
+#[derive(Clone, Copy)]
+struct ShownFlow(Flow);
+
+impl fmt::Display for ShownFlow {
+    fn fmt<W: fmt::Write>(&self, f: &mut fmt::Formatter<W>) -> fmt::Result {
+        match self.0 {
+            Flow::Next => write!(f, " then next"),
+            Flow::Jump(target) => write!(f, " then {target}"),
+            Flow::Branch(target) => write!(f, " then next or {target}"),
+            Flow::End => write!(f, " then none"),
+        }
     }
 }

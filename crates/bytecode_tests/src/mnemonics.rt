@@ -1,6 +1,6 @@
-use crate::effects::print_effect;
-use bytecode::Mnemonic;
-use std::io;
+use crate::effects::ShownEffect;
+use bytecode::{Effect, Mnemonic};
+use std::{fmt, io};
 
 /// All mnemonics, and words that are none.
 static WORDS: [&str; 66] = [
@@ -76,27 +76,24 @@ static WORDS: [&str; 66] = [
 pub fn words(rt: &HostRuntime) -> io::Result<()> {
     for word in &WORDS {
         print!(rt; "word \"{word}\"")?;
-        match Mnemonic::from_spelling(word.as_bytes()) {
-            Some(mnemonic) => print_mnemonic(rt, mnemonic)?,
-            None => print!(rt; " no mnemonic")?,
+        match Mnemonic::try_from(word.as_bytes()) {
+            Ok(mnemonic) => print!(rt; " spelled {mnemonic}{}", ShownRow(mnemonic.effect()))?,
+            Err(_) => print!(rt; " no mnemonic")?,
         }
         println!(rt)?;
     }
     Ok(())
 }
 
-fn print_mnemonic(rt: &HostRuntime, mnemonic: Mnemonic) -> io::Result<()> {
-    print!(rt; " spelled ")?;
-    print_spelling(rt, mnemonic)?;
-    match mnemonic.effect() {
-        Some(effect) => print_effect(rt, effect),
-        None => print!(rt; " by its operand"),
-    }
-}
+/// What the table says of a mnemonic, as the test prints it.
+#[derive(Clone, Copy)]
+struct ShownRow(Option<Effect>);
 
-pub fn print_spelling(rt: &HostRuntime, mnemonic: Mnemonic) -> io::Result<()> {
-    for byte in mnemonic.spelling() {
-        print!(rt; "{}", char::from(*byte))?;
+impl fmt::Display for ShownRow {
+    fn fmt<W: fmt::Write>(&self, f: &mut fmt::Formatter<W>) -> fmt::Result {
+        match self.0 {
+            Some(effect) => write!(f, "{}", ShownEffect(effect)),
+            None => write!(f, " by its operand"),
+        }
     }
-    Ok(())
 }

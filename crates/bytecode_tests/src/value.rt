@@ -1,7 +1,6 @@
 ghost use Rattle.bytecode_tests.specs.Values.{value_slots};
 ghost use Rattle.std.proofs.Common.{rules};
 
-use crate::effects::letter;
 use bytecode::Kind;
 use operands::Cell;
 use std::io;
@@ -33,7 +32,7 @@ pub trait PrintedCell: Cell {
 
 impl PrintedCell for Kind {
     fn print(self, rt: &HostRuntime) -> io::Result<()> {
-        print!(rt; " {}", letter(self))
+        print!(rt; " {self}")
     }
 }
 

@@ -76,6 +76,7 @@ pub enum ReadType {
 }
 
 /// An instruction with its operand. Fields, methods and jumps' targets are numbers of table rows.
+// Numbers and no references: the rows lie in tables that the caller lends, and some are written later.
 #[derive(Clone, Copy, Debug, PartialEq, Eq)]
 pub enum Instruction {
     /// `nop`
@@ -243,15 +244,18 @@ impl ReadType {
     }
 }
 
-fn stack_mnemonic(op: StackOp) -> Mnemonic
-    ensures { result ≡ stack_mnemonic op }
-{
-    match op {
-        StackOp::Dup => Mnemonic::Dup,
-        StackOp::Dup2 => Mnemonic::Dup2,
-        StackOp::Pop => Mnemonic::Pop,
-        StackOp::Pop2 => Mnemonic::Pop2,
-        StackOp::Swap => Mnemonic::Swap,
+/// The mnemonic that is carried out so.
+impl From<StackOp> for Mnemonic {
+    ghost from_gives = { λ op mnemonic. mnemonic ≡ stack_mnemonic op };
+
+    fn from(op: StackOp) -> Mnemonic {
+        match op {
+            StackOp::Dup => Mnemonic::Dup,
+            StackOp::Dup2 => Mnemonic::Dup2,
+            StackOp::Pop => Mnemonic::Pop,
+            StackOp::Pop2 => Mnemonic::Pop2,
+            StackOp::Swap => Mnemonic::Swap,
+        }
     }
 }
 
@@ -286,7 +290,7 @@ impl Instruction {
             Instruction::Load(Number::Long, _) => Mnemonic::Lload,
             Instruction::Store(Number::Int, _) => Mnemonic::Istore,
             Instruction::Store(Number::Long, _) => Mnemonic::Lstore,
-            Instruction::Stack(op) => stack_mnemonic(op),
+            Instruction::Stack(op) => Mnemonic::from(op),
             Instruction::Goto(_) => Mnemonic::Goto,
             Instruction::IfZero(comparison, _) => comparison.zero_mnemonic(),
             Instruction::IfCompare(comparison, _) => comparison.int_mnemonic(),

@@ -138,14 +138,16 @@ impl Mnemonic {
     pub fn spelling(self) -> &'static str
         ensures { result.now ≡ spelling self }
     {
-        TABLE[self as usize].1
+        let Row(_, spelling, _) = &TABLE[self as usize];
+        spelling
     }
 
     /// What it takes from the operand stack and leaves on it; none where its operand decides that.
     pub fn effect(self) -> Option<Effect>
         ensures { result ≡ table_effect self }
     {
-        TABLE[self as usize].2
+        let Row(_, _, effect) = &TABLE[self as usize];
+        *effect
     }
 }
 
@@ -158,8 +160,8 @@ impl TryFrom<&[u8]> for Mnemonic {
     fn try_from(word: &[u8]) -> Result<Mnemonic, Misspelled> {
         TABLE
             .iter()
-            .find(|row| row.1.as_bytes() == word)
-            .map(|row| row.0)
+            .find(|Row(_, spelling, _)| spelling.as_bytes() == word)
+            .map(|Row(mnemonic, _, _)| *mnemonic)
             .ok_or(Misspelled)
     }
 }

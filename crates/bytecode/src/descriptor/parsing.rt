@@ -9,7 +9,7 @@ use crate::misspelled::Misspelled;
 /// The most registers that the parameters of a method may take.
 const MOST: usize = 16;
 
-/// Reads a descriptor such as `(IJ)V`: the letters of the parameters in parentheses, and the letter of the result. None
+/// Reads a descriptor such as `(IJ)V`: the letters of the parameters in parentheses, and the letter of the result. Refused
 /// where the text is no descriptor, or its parameters take more than 16 registers, of which a `J` takes two.
 impl TryFrom<&[u8]> for Descriptor {
     type Error = Misspelled;
@@ -42,6 +42,7 @@ fn types_of(letters: &[u8]) -> Result<[FieldType; 16], Misspelled>
     if letters.len() > types.len() {
         return Err(Misspelled);
     }
+    // Each is written by its place: of what `iter_mut().zip(..)` writes, a proof knows nothing after the loop.
     for (place, letter) in letters.iter().enumerate() {
         types[place] = FieldType::try_from(*letter)?;
     }

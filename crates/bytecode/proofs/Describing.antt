@@ -1,6 +1,6 @@
 -- A descriptor's letters determine it, and what the bytes of a text say of the signatures that are spelled so. Assumes
 -- nothing.
-use Rattle.std.proofs.Common.{◌≡◌, ℕ, ◌+◌, ◌-◌, ◌<◌, ◌≤◌, List, [], ◌∷◌, ◌++◌, map, length, get_or, take, drop, set, None, Option, Result, Ok, Err, sym, refl, ap, ◌∙◌, subst, append_assoc, arith, length-append}
+use Rattle.std.proofs.Common.{cond, eqb, ◌≡◌, ℕ, ◌+◌, ◌-◌, ◌<◌, ◌≤◌, List, [], ◌∷◌, ◌++◌, map, length, get_or, take, drop, set, None, Option, Result, Ok, Err, sym, refl, ap, ◌∙◌, subst, append_assoc, arith, length-append}
 use Rattle.std.proofs.Math.Seq.{get_or-append_seam}
 use Rattle.std.proofs.lemmas.List.{drop-drop, drop_all, drop_more, get_or-map, length-map, map_push, same_from_push, take-append-drop, take_more, take_more_set}
 use Rattle.std.specs.Result.{IsErr, result_ok}
@@ -12,51 +12,41 @@ use Rattle.bytecode.specs.declared.descriptor.FieldType.TheVariants.{Char, Short
 use Rattle.bytecode.specs.declared.descriptor.ReturnType.{ReturnType}
 use Rattle.bytecode.specs.declared.descriptor.ReturnType.TheVariants.{Void, Value}
 
--- a letter stands for one type, and no parenthesis is a letter
-pub letter_same : (t u : FieldType) → letter t ≡ letter u → t ≡ u
-letter_same Char Char e = refl
-letter_same Char Short e = absurd (omega arith)
-letter_same Char Int e = absurd (omega arith)
-letter_same Char Long e = absurd (omega arith)
-letter_same Short Char e = absurd (omega arith)
-letter_same Short Short e = refl
-letter_same Short Int e = absurd (omega arith)
-letter_same Short Long e = absurd (omega arith)
-letter_same Int Char e = absurd (omega arith)
-letter_same Int Short e = absurd (omega arith)
-letter_same Int Int e = refl
-letter_same Int Long e = absurd (omega arith)
-letter_same Long Char e = absurd (omega arith)
-letter_same Long Short e = absurd (omega arith)
-letter_same Long Int e = absurd (omega arith)
-letter_same Long Long e = refl
+-- a letter stands for one type, since the type can be told from it
+abbrev type_of : ℕ → FieldType
+type_of byte = cond (eqb byte 67) Char (cond (eqb byte 83) Short (cond (eqb byte 73) Int Long))
 
-letter_range : (t : FieldType) → (41 < letter t) × (letter t < 86)
-letter_range Char = (omega arith, omega arith)
-letter_range Short = (omega arith, omega arith)
-letter_range Int = (omega arith, omega arith)
-letter_range Long = (omega arith, omega arith)
+type_told : (t : FieldType) → type_of (letter t) ≡ t
+type_told Char = refl
+type_told Short = refl
+type_told Int = refl
+type_told Long = refl
 
-return_letter_same : (t u : ReturnType) → return_letter t ≡ return_letter u → t ≡ u
-return_letter_same Void Void e = refl
-return_letter_same Void (Value u) e = absurd (omega (arith, letter_range u))
-return_letter_same (Value t) Void e = absurd (omega (arith, letter_range t))
-return_letter_same (Value t) (Value u) e = ap Value (letter_same t u e)
-
-pub size_range : (t : FieldType) → (1 ≤ size (number_of t)) × (size (number_of t) ≤ 2)
-size_range Char = (omega arith, omega arith)
-size_range Short = (omega arith, omega arith)
-size_range Int = (omega arith, omega arith)
-size_range Long = (omega arith, omega arith)
+types_told : (ts : List FieldType) → map type_of (map letter ts) ≡ ts
+types_told [] = refl
+types_told (t ∷ ts) = λ k. type_told t k ∷ types_told ts k
 
 pub letters_same : (ts us : List FieldType) → map letter ts ≡ map letter us → ts ≡ us
-letters_same [] [] e = refl
-letters_same [] (u ∷ us) e = cc
-letters_same (t ∷ ts) [] e = cc
-letters_same (t ∷ ts) (u ∷ us) e =
-    let first : letter t ≡ letter u = cc in
-    let others : map letter ts ≡ map letter us = cc in
-    λ k. letter_same t u first k ∷ letters_same ts us others k
+letters_same ts us e = sym (types_told ts) ∙ ap (map type_of) e ∙ types_told us
+
+abbrev return_type_of : ℕ → ReturnType
+return_type_of byte = cond (eqb byte 86) Void (Value (type_of byte))
+
+return_type_told : (t : ReturnType) → return_type_of (return_letter t) ≡ t
+return_type_told Void = refl
+return_type_told (Value Char) = refl
+return_type_told (Value Short) = refl
+return_type_told (Value Int) = refl
+return_type_told (Value Long) = refl
+
+return_letter_same : (t u : ReturnType) → return_letter t ≡ return_letter u → t ≡ u
+return_letter_same t u e = sym (return_type_told t) ∙ ap return_type_of e ∙ return_type_told u
+
+size_above : (t : FieldType) → 1 ≤ size (number_of t)
+size_above Char = omega arith
+size_above Short = omega arith
+size_above Int = omega arith
+size_above Long = omega arith
 
 -- a text in parentheses, with one byte after them, spells a signature by its parts
 pub parts : (s : Signature) (letters : List ℕ) (byte : ℕ) → spelled s ≡ 40 ∷ (letters ++ 41 ∷ byte ∷ []) → (map letter s.parameters ≡ letters) × (return_letter s.result ≡ byte)
@@ -73,7 +63,7 @@ spells_once s t e =
 -- parameters take a register at least
 pub length_within : (ts : List FieldType) → length ts ≤ registers_of ts
 length_within [] = omega arith
-length_within (t ∷ ts) = omega (arith, size_range t, sum_by-cons (λ t. size (number_of t)) t ts, length_within ts)
+length_within (t ∷ ts) = omega (arith, size_above t, sum_by-cons (λ t. size (number_of t)) t ts, length_within ts)
 
 -- the text that such bytes make
 abbrev enclosed : List ℕ → ℕ → List ℕ

@@ -132,7 +132,7 @@ impl fmt::Display for ReturnType {
 
 /// A method's parameters, which take at most 16 registers, and what it returns.
 // An array and a count, and no vector, so that it is `Copy` and of fixed memory: it is to lie in the rows of a lent table.
-// No `impl Model` either: a row that holds a struct with one is not copied.
+// No `impl Model` either: a `Copy` struct has one only where its value gives the fields back, also past the count.
 #[derive(Clone, Copy, Debug)]
 pub struct Descriptor {
     parameters: [FieldType; 16],

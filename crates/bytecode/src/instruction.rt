@@ -68,6 +68,7 @@ pub enum PrintType {
 }
 
 /// What a reading block reads. A character is an I on the stack.
+// A type beside `PrintType`, so that the reading of a text cannot be written.
 #[derive(Clone, Copy, Debug, PartialEq, Eq)]
 pub enum ReadType {
     Char,
@@ -205,6 +206,7 @@ impl Comparison {
         }
     }
 
+    // Only the cases' names are the same as above: one function for both would hold both lists.
     fn int_mnemonic(self) -> Mnemonic
         ensures { result ≡ int_mnemonic self }
     {

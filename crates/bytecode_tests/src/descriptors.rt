@@ -67,7 +67,7 @@ pub fn texts(rt: &HostRuntime) -> io::Result<()> {
     for text in &TEXTS {
         print!(rt; "descriptor \"{text}\"")?;
         match Descriptor::try_from(text.as_bytes()) {
-            Ok(descriptor) => print_descriptor(rt, &descriptor)?,
+            Ok(descriptor) => print!(rt; "{}", ShownDescriptor(descriptor))?,
             Err(_) => print!(rt; " none")?,
         }
         println!(rt)?;
@@ -75,13 +75,19 @@ pub fn texts(rt: &HostRuntime) -> io::Result<()> {
     Ok(())
 }
 
-fn print_descriptor(rt: &HostRuntime, descriptor: &Descriptor) -> io::Result<()> {
-    print!(rt; " parameters ")?;
-    for parameter in descriptor.parameters() {
-        print!(rt; "{parameter}")?;
+/// A descriptor, as the test prints it: its parameters, the registers that they take, and its result.
+#[derive(Clone, Copy)]
+struct ShownDescriptor(Descriptor);
+
+impl fmt::Display for ShownDescriptor {
+    fn fmt<W: fmt::Write>(&self, f: &mut fmt::Formatter<W>) -> fmt::Result {
+        write!(f, " parameters ")?;
+        for parameter in self.0.parameters() {
+            write!(f, "{parameter}")?;
+        }
+        let result = ShownResult(self.0.result());
+        write!(f, " registers {}{result}", self.0.registers())
     }
-    let result = ShownResult(descriptor.result());
-    print!(rt; " registers {}{result}", descriptor.registers())
 }
 
 /// The result of a method, as the test prints it: its letter, and the number that it is held as.

@@ -17,8 +17,6 @@ fn main(rt: HostRuntime) -> io::Result<()> {
     instructions::cases(&rt)?;
     descriptors::letters(&rt)?;
     descriptors::texts(&rt)?;
-    stacks::of_kinds(&rt)?;
-    stacks::of_values(&rt)?;
-    registers::of_kinds(&rt)?;
-    registers::of_values(&rt)
+    stacks::cases(&rt)?;
+    registers::cases(&rt)
 }

@@ -1,5 +1,6 @@
-use operands::{Register, registers};
-use std::io;
+use operands::Register;
+use operands::registers::{self, NoSuchRegister};
+use std::{fmt, io};
 
 /// What is done to registers: a register's number, and the value for a store.
 #[derive(Clone, Copy)]
@@ -10,36 +11,32 @@ enum Step<I, J> {
     LoadLong(usize),
 }
 
-type KindStep = Step<(), ()>;
-
-type ValueStep = Step<i32, i64>;
-
-static KINDS: [&[Step<(), ()>]; 4] = [
+static KINDS: [&[Step<Unknown, Unknown>]; 4] = [
     &[
-        Step::StoreInt(0, ()),
+        Step::StoreInt(0, Unknown),
         Step::LoadInt(0),
         Step::LoadInt(1),
         Step::LoadLong(0),
     ],
     &[
-        Step::StoreLong(0, ()),
+        Step::StoreLong(0, Unknown),
         Step::LoadLong(0),
         Step::LoadLong(1),
         Step::LoadInt(0),
         Step::LoadInt(1),
     ],
     &[
-        Step::StoreLong(14, ()),
-        Step::StoreLong(15, ()),
-        Step::StoreInt(16, ()),
+        Step::StoreLong(14, Unknown),
+        Step::StoreLong(15, Unknown),
+        Step::StoreInt(16, Unknown),
         Step::LoadLong(15),
         Step::LoadInt(16),
     ],
     &[
-        Step::StoreLong(3, ()),
-        Step::StoreInt(3, ()),
-        Step::StoreLong(3, ()),
-        Step::StoreInt(4, ()),
+        Step::StoreLong(3, Unknown),
+        Step::StoreInt(3, Unknown),
+        Step::StoreLong(3, Unknown),
+        Step::StoreInt(4, Unknown),
         Step::LoadInt(3),
     ],
 ];
@@ -96,49 +93,29 @@ static VALUES: [&[Step<i32, i64>]; 8] = [
     ],
 ];
 
-/// A line for each case of kinds.
-pub fn of_kinds(rt: &HostRuntime) -> io::Result<()> {
-    for steps in &KINDS {
-        print!(rt; "registers of kinds")?;
-        carry_out(rt, &mut [Register::Unset; 16], steps)?;
+/// A line for each case of kinds, and then for each of values.
+pub fn cases(rt: &HostRuntime) -> io::Result<()> {
+    lines(rt, "kinds", &mut [Register::Unset; 16], &KINDS)?;
+    lines(rt, "values", &mut [Register::Unset; 16], &VALUES)
+}
+
+/// For each case a line, over registers that are all unset at first.
+fn lines<I: Copy + fmt::Display, J: Copy + fmt::Display>(
+    rt: &HostRuntime,
+    sort: &str,
+    all: &mut [Register<I, J>],
+    cases: &[&[Step<I, J>]],
+) -> io::Result<()> {
+    for steps in cases {
+        all.fill(Register::Unset);
+        print!(rt; "registers of {sort}")?;
+        carry_out(rt, all, steps)?;
     }
     Ok(())
-}
-
-/// A line for each case of values.
-pub fn of_values(rt: &HostRuntime) -> io::Result<()> {
-    for steps in &VALUES {
-        print!(rt; "registers of values")?;
-        carry_out(rt, &mut [Register::Unset; 16], steps)?;
-    }
-    Ok(())
-}
-
-/// What a register holds, as it is printed: nothing more for a kind, the number for a value.
-trait Held: Copy {
-    fn print(self, rt: &HostRuntime) -> io::Result<()>;
-}
-
-impl Held for () {
-    fn print(self, _rt: &HostRuntime) -> io::Result<()> {
-        Ok(())
-    }
-}
-
-impl Held for i32 {
-    fn print(self, rt: &HostRuntime) -> io::Result<()> {
-        print!(rt; "{self}")
-    }
-}
-
-impl Held for i64 {
-    fn print(self, rt: &HostRuntime) -> io::Result<()> {
-        print!(rt; "{self}")
-    }
 }
 
 /// Each step, with what a load gives or the registers after a store, and `no` where it is refused.
-fn carry_out<I: Held, J: Held>(
+fn carry_out<I: Copy + fmt::Display, J: Copy + fmt::Display>(
     rt: &HostRuntime,
     all: &mut [Register<I, J>],
     steps: &[Step<I, J>],
@@ -168,40 +145,46 @@ fn carry_out<I: Held, J: Held>(
     println!(rt)
 }
 
-fn print_loaded<V: Held>(rt: &HostRuntime, value: Option<V>) -> io::Result<()> {
+fn print_loaded<V: fmt::Display + Drop>(rt: &HostRuntime, value: Option<V>) -> io::Result<()> {
     match value {
-        Some(value) => {
-            print!(rt; " =")?;
-            value.print(rt)
-        }
+        Some(value) => print!(rt; " ={value}"),
         None => print!(rt; " no"),
     }
 }
 
-/// The registers: `u` unset, `I`, `J` and `j` for the halves of a long, with the number.
-fn print_stored<I: Held, J: Held>(
+fn print_stored<I: Copy + fmt::Display, J: Copy + fmt::Display>(
     rt: &HostRuntime,
-    done: bool,
+    done: Result<(), NoSuchRegister>,
     all: &[Register<I, J>],
 ) -> io::Result<()> {
-    print!(rt; " {} [", if done { "yes" } else { "no" })?;
+    print!(rt; " {} [", if done.is_ok() { "yes" } else { "no" })?;
     for register in all {
-        print_register(rt, *register)?;
+        print!(rt; " {}", Shown(*register))?;
     }
     print!(rt; " ]")
 }
 
-fn print_register<I: Held, J: Held>(rt: &HostRuntime, register: Register<I, J>) -> io::Result<()> {
-    match register {
-        Register::Unset => print!(rt; " u"),
-        Register::Int(value) => {
-            print!(rt; " I")?;
-            value.print(rt)
+/// What a frame knows of a number besides its kind, which is nothing.
+#[derive(Clone, Copy)]
+struct Unknown;
+
+impl fmt::Display for Unknown {
+    fn fmt<W: fmt::Write>(&self, _f: &mut fmt::Formatter<W>) -> fmt::Result {
+        Ok(())
+    }
+}
+
+/// A register as it is printed: `u` unset, `I`, `J` and `j` for the halves of a long, with the number.
+#[derive(Clone, Copy)]
+struct Shown<I, J>(Register<I, J>);
+
+impl<I: Copy + fmt::Display, J: Copy + fmt::Display> fmt::Display for Shown<I, J> {
+    fn fmt<W: fmt::Write>(&self, f: &mut fmt::Formatter<W>) -> fmt::Result {
+        match self.0 {
+            Register::Unset => write!(f, "u"),
+            Register::Int(value) => write!(f, "I{value}"),
+            Register::LongFirst(value) => write!(f, "J{value}"),
+            Register::LongSecond => write!(f, "j"),
         }
-        Register::LongFirst(value) => {
-            print!(rt; " J")?;
-            value.print(rt)
-        }
-        Register::LongSecond => print!(rt; " j"),
     }
 }

@@ -1,7 +1,7 @@
-use crate::value::{PrintedCell, Value};
+use crate::value::Value;
 use bytecode::Kind;
-use operands::{Cell, StackOp, stack};
-use std::io;
+use operands::{Cell, Stack, StackOp};
+use std::{fmt, io};
 
 /// What is done to a stack.
 #[derive(Clone, Copy)]
@@ -125,95 +125,75 @@ static VALUES: [(&[Value], &[Step<Value>]); 4] = [
     ),
 ];
 
-/// A line for each case of kinds.
-pub fn of_kinds(rt: &HostRuntime) -> io::Result<()> {
-    for (start, steps) in &KINDS {
-        carry_out(rt, [Kind::Int; 16], start, steps)?;
-    }
-    Ok(())
+/// A line for each case of kinds, and then for each of values.
+pub fn cases(rt: &HostRuntime) -> io::Result<()> {
+    lines(rt, &mut [Kind::Int; 16], &KINDS)?;
+    lines(rt, &mut [Value::Int(0); 16], &VALUES)
 }
 
-/// A line for each case of values.
-pub fn of_values(rt: &HostRuntime) -> io::Result<()> {
-    for (start, steps) in &VALUES {
-        carry_out(rt, [Value::Int(0); 16], start, steps)?;
-    }
-    Ok(())
-}
-
-/// The stack at the start; then each step, with `no` where it is refused, and the stack after it.
-fn carry_out<C: PrintedCell>(
-    rt: &HostRuntime,
-    mut cells: [C; 16],
-    start: &[C],
-    steps: &[Step<C>],
-) -> io::Result<()> {
-    let mut used = 0;
-    for cell in start {
-        if let Some(more) = stack::push(&mut cells, used, *cell) {
-            used = more;
-        }
-    }
-    print!(rt; "stack")?;
-    print_stack(rt, &cells, used)?;
-    for step in steps {
-        match carry_out_step(rt, &mut cells, used, *step)? {
-            Some(now) => used = now,
-            None => print!(rt; " no")?,
-        }
-        print_stack(rt, &cells, used)?;
-    }
-    println!(rt)
-}
-
-fn carry_out_step<C: PrintedCell>(
+/// For each case a line: the stack at the start; then each step, with `no` where it is refused, and the stack after it.
+fn lines<C: Cell + fmt::Display>(
     rt: &HostRuntime,
     cells: &mut [C],
-    used: usize,
+    cases: &[(&[C], &[Step<C>])],
+) -> io::Result<()> {
+    for (start, steps) in cases {
+        let mut stack = Stack::new(cells, 0);
+        for cell in *start {
+            if stack.push(*cell).is_err() {
+                break;
+            }
+        }
+        print!(rt; "stack")?;
+        print_stack(rt, &stack)?;
+        for step in *steps {
+            if !carry_out(rt, &mut stack, *step)? {
+                print!(rt; " no")?;
+            }
+            print_stack(rt, &stack)?;
+        }
+        println!(rt)?;
+    }
+    Ok(())
+}
+
+/// Whether the step was carried out.
+fn carry_out<C: Cell + fmt::Display>(
+    rt: &HostRuntime,
+    stack: &mut Stack<C>,
     step: Step<C>,
-) -> io::Result<Option<usize>> {
+) -> io::Result<bool> {
     match step {
         Step::Push(cell) => {
-            print!(rt; " push")?;
-            cell.print(rt)?;
-            Ok(stack::push(cells, used, cell))
+            print!(rt; " push {cell}")?;
+            Ok(stack.push(cell).is_ok())
         }
         Step::Pop => {
             print!(rt; " take")?;
-            match stack::pop(cells, used) {
-                Some((cell, left)) => {
-                    cell.print(rt)?;
-                    Ok(Some(left))
+            match stack.pop() {
+                Some(cell) => {
+                    print!(rt; " {cell}")?;
+                    Ok(true)
                 }
-                None => Ok(None),
+                None => Ok(false),
             }
         }
         Step::Rearrange(op) => {
-            print!(rt; " {}", op_name(op))?;
-            Ok(stack::rearrange(cells, used, op))
+            print!(rt; " {op}")?;
+            Ok(stack.rearrange(op).is_ok())
         }
     }
 }
 
 /// The cells of a stack, the top last, in brackets, with its slots and its top.
-fn print_stack<C: PrintedCell>(rt: &HostRuntime, cells: &[C], used: usize) -> io::Result<()> {
+fn print_stack<C: Cell + fmt::Display>(rt: &HostRuntime, stack: &Stack<C>) -> io::Result<()> {
     print!(rt; " [")?;
-    for cell in cells.iter().take(used) {
-        cell.print(rt)?;
+    for cell in stack.cells() {
+        print!(rt; " {cell}")?;
     }
-    print!(rt; " ] {}", stack::slots(cells, used))?;
-    match stack::peek(cells, used) {
-        Some(top) => top.print(rt),
+    print!(rt; " ] {}", stack.slots())?;
+    match stack.peek() {
+        Some(top) => print!(rt; " {top}"),
         None => Ok(()),
-    }
-}
-
-fn op_name(op: StackOp) -> &'static str {
-    match op {
-        StackOp::Dup => "dup",
-        StackOp::Dup2 => "dup2",
-        StackOp::Pop => "pop",
-        StackOp::Pop2 => "pop2",
-        StackOp::Swap => "swap",
     }
 }

@@ -1,9 +1,8 @@
 ghost use Rattle.bytecode_tests.specs.Values.{value_slots};
 ghost use Rattle.std.proofs.Common.{rules};
 
-use bytecode::Kind;
 use operands::Cell;
-use std::io;
+use std::fmt;
 
 /// A value on a stack: a long takes two slots.
 #[derive(Clone, Copy)]
@@ -25,22 +24,12 @@ impl Cell for Value {
     }
 }
 
-/// A cell that can be printed, after a blank.
-pub trait PrintedCell: Cell {
-    fn print(self, rt: &HostRuntime) -> io::Result<()>;
-}
-
-impl PrintedCell for Kind {
-    fn print(self, rt: &HostRuntime) -> io::Result<()> {
-        print!(rt; " {self}")
-    }
-}
-
-impl PrintedCell for Value {
-    fn print(self, rt: &HostRuntime) -> io::Result<()> {
+/// The number, with an `L` after a long.
+impl fmt::Display for Value {
+    fn fmt<W: fmt::Write>(&self, f: &mut fmt::Formatter<W>) -> fmt::Result {
         match self {
-            Value::Int(value) => print!(rt; " {value}"),
-            Value::Long(value) => print!(rt; " {value}L"),
+            Value::Int(value) => write!(f, "{value}"),
+            Value::Long(value) => write!(f, "{value}L"),
         }
     }
 }

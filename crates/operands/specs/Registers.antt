@@ -1,5 +1,5 @@
 -- Registers, of values or of kinds alone. Assumes nothing.
-use Rattle.std.specs.Prelude.{◌≡◌, ℕ, ◌+◌, Bool, true, false, List, [], ◌∷◌, ◌++◌, length, take, drop, Some, None, Option, nat_le, slice_index_or}
+use Rattle.std.specs.Prelude.{◌≡◌, ℕ, ◌+◌, List, [], ◌∷◌, ◌++◌, length, take, drop, Some, None, Option, Ok, Err, Result, nat_le, slice_index_or}
 use Rattle.operands.specs.declared.register.Register.{Register}
 use Rattle.operands.specs.declared.register.Register.TheVariants.{Unset, Int, LongFirst, LongSecond}
 use Rattle.operands.specs.Stacks.{when}
@@ -74,11 +74,11 @@ with_cells cells n rs = ending_whole (take n rs) ++ (cells ++ starting_whole (dr
 abbrev pub stored : {I J : Type 0} → List (Register I J) → ℕ → List (Register I J) → Option (List (Register I J))
 stored cells n rs = when (nat_le (n + length cells) (length rs)) (with_cells cells n rs)
 
--- `StoresAs wanted before r after`: where r is true the registers are what is wanted; where it is false nothing is wanted,
--- and nothing is altered.
-abbrev pub StoresAs : {I J : Type 0} → Option (List (Register I J)) → List (Register I J) → Bool → List (Register I J) → Type 0
-StoresAs wanted before true after = wanted ≡ Some after
-StoresAs wanted before false after = (wanted ≡ None) × (after ≡ before)
+-- `StoresAs wanted before r after`: where r is ok the registers are what is wanted; where it is an error nothing is
+-- wanted, and nothing is altered.
+abbrev pub StoresAs : {I J A E : Type 0} → Option (List (Register I J)) → List (Register I J) → Result A E → List (Register I J) → Type 0
+StoresAs wanted before (Ok _) after = wanted ≡ Some after
+StoresAs wanted before (Err _) after = (wanted ≡ None) × (after ≡ before)
 
 -- A store of what is paired leaves paired registers paired, and as many as there were.
 abbrev pub KeepsPairs : Type 0 → Type 0 → Type 0

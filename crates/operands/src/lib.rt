@@ -7,4 +7,4 @@ pub mod registers;
 pub mod stack;
 
 pub use register::Register;
-pub use stack::{Cell, StackOp};
+pub use stack::{Cell, Stack, StackError, StackOp};

@@ -1,18 +1,18 @@
-ghost use Rattle.std.specs.Prelude.{◌≡◌, ◌+◌, ◌<◌, ◌≤◌, ◌++◌, length, take, drop, MatchBool};
-ghost use Rattle.operands.specs.Registers.{KeepsPairs, StoresAs, ending_whole, int_at, int_cells, long_at, long_cells, starting_whole, stored};
+ghost use Rattle.std.specs.Prelude.{◌≡◌, ◌+◌, ◌<◌, ◌≤◌, ◌++◌, length, take, drop, OnOk, OnErr};
+ghost use Rattle.operands.specs.Registers.{KeepsPairs, StoresAs, ending_whole, starting_whole, no_first, no_second, int_at, int_cells, long_at, long_cells, stored};
 
 use crate::register::Register;
+
+/// A store names a register that there is not.
+#[derive(Clone, Copy, Debug, PartialEq, Eq)]
+pub struct NoSuchRegister;
 
 /// The int in a register; none where there is no such register, or it holds no int.
 pub fn load_int<I: Copy, J: Copy>(registers: &[Register<I, J>], n: usize) -> Option<I>
     ensures { result ≡ int_at n registers.now }
 {
-    if n >= registers.len() {
-        return None;
-    }
-    let register = registers[n];
-    match register {
-        Register::Int(value) => Some(value),
+    match registers.get(n) {
+        Some(Register::Int(value)) => Some(*value),
         _ => None,
     }
 }
@@ -21,74 +21,93 @@ pub fn load_int<I: Copy, J: Copy>(registers: &[Register<I, J>], n: usize) -> Opt
 pub fn load_long<I: Copy, J: Copy>(registers: &[Register<I, J>], n: usize) -> Option<J>
     ensures { result ≡ long_at n registers.now }
 {
-    if !has_both(registers, n) {
-        return None;
-    }
-    match (registers[n], registers[n + 1]) {
-        (Register::LongFirst(value), Register::LongSecond) => Some(value),
+    match registers.get(n..)? {
+        [Register::LongFirst(value), Register::LongSecond, ..] => Some(*value),
         _ => None,
     }
 }
 
-/// Stores an int into a register. Where that held half of a long, the other half is unset. False where there is no such
-/// register; nothing is altered then.
-pub fn store_int<I: Copy, J: Copy>(registers: &mut [Register<I, J>], n: usize, value: I) -> bool
+/// Stores an int into a register. Where that held half of a long, the other half is unset. Where there is no such
+/// register nothing is altered.
+pub fn store_int<I: Copy, J: Copy>(
+    registers: &mut [Register<I, J>],
+    n: usize,
+    value: I,
+) -> Result<(), NoSuchRegister>
     ensures value { StoresAs (stored (int_cells value) n registers.old) registers.old result registers.new }
     ensures pairs { KeepsPairs I J }
 {
-    if n >= registers.len() {
-        return false;
-    }
-    unset_first_half(registers, n);
-    unset_second_half(registers, n + 1);
+    unset_halves(registers, n, 1)?;
     registers[n] = Register::Int(value);
-    true
+    Ok(())
 }
 
-/// Stores a long into a register and the next one. Where these held half of another long, its other half is unset. False
-/// where there are no such registers; nothing is altered then.
-pub fn store_long<I: Copy, J: Copy>(registers: &mut [Register<I, J>], n: usize, value: J) -> bool
+/// Stores a long into a register and the next one. Where these held half of another long, its other half is unset. Where
+/// there are no such registers nothing is altered.
+pub fn store_long<I: Copy, J: Copy>(
+    registers: &mut [Register<I, J>],
+    n: usize,
+    value: J,
+) -> Result<(), NoSuchRegister>
     ensures value { StoresAs (stored (long_cells value) n registers.old) registers.old result registers.new }
     ensures pairs { KeepsPairs I J }
 {
-    if !has_both(registers, n) {
-        return false;
-    }
-    unset_first_half(registers, n);
-    unset_second_half(registers, n + 2);
+    unset_halves(registers, n, 2)?;
     registers[n] = Register::LongFirst(value);
     registers[n + 1] = Register::LongSecond;
-    true
+    Ok(())
 }
 
-/// Whether there is a register `n` and one after it.
-fn has_both<I: Copy, J: Copy>(registers: &[Register<I, J>], n: usize) -> bool
-    ensures { MatchBool result (n + 2 ≤ length registers.now) (length registers.now < n + 2) }
+/// Unsets the halves on both sides of `count` registers from `n` on, where these hold the other halves of them.
+fn unset_halves<I: Copy, J: Copy>(
+    registers: &mut [Register<I, J>],
+    n: usize,
+    count: usize,
+) -> Result<(), NoSuchRegister>
+    ensures unset { OnOk result ((n + count ≤ length registers.old) × (registers.new ≡ ending_whole (take n registers.old) ++ (take count (drop n registers.old) ++ starting_whole (drop (n + count) registers.old)))) }
+    ensures refused { OnErr result ((length registers.old < n + count) × (registers.new ≡ registers.old)) }
 {
-    registers.len().saturating_sub(n) >= 2
+    let (before, rest) = registers.split_at_mut_checked(n).ok_or(NoSuchRegister)?;
+    let (_, after) = rest.split_at_mut_checked(count).ok_or(NoSuchRegister)?;
+    unset_first_half(before);
+    unset_second_half(after);
+    Ok(())
 }
 
-/// Unsets the register before `end` where it holds the first half of a long.
-fn unset_first_half<I: Copy, J: Copy>(registers: &mut [Register<I, J>], end: usize)
-    requires { end ≤ length registers.old }
-    ensures { registers.new ≡ ending_whole (take end registers.old) ++ drop end registers.old }
+/// Unsets the last register where it holds the first half of a long.
+fn unset_first_half<I: Copy, J: Copy>(before: &mut [Register<I, J>])
+    ensures { before.new ≡ ending_whole before.old }
 {
-    if end > 0 {
-        let register = registers[end - 1];
-        if let Register::LongFirst(_) = register {
-            registers[end - 1] = Register::Unset;
-        }
+    if let Some(last) = before.last_mut() {
+        *last = no_first_half(*last);
     }
 }
 
-/// Unsets the register at `start` where there is one and it holds the second half of a long.
-fn unset_second_half<I: Copy, J: Copy>(registers: &mut [Register<I, J>], start: usize)
-    ensures { registers.new ≡ take start registers.old ++ starting_whole (drop start registers.old) }
+/// Unsets the first register where it holds the second half of a long.
+fn unset_second_half<I: Copy, J: Copy>(after: &mut [Register<I, J>])
+    ensures { after.new ≡ starting_whole after.old }
 {
-    if start < registers.len() {
-        let register = registers[start];
-        if let Register::LongSecond = register {
-            registers[start] = Register::Unset;
-        }
+    if let Some(first) = after.first_mut() {
+        *first = no_second_half(*first);
+    }
+}
+
+/// The register, unset if it holds the first half of a long.
+fn no_first_half<I: Copy, J: Copy>(register: Register<I, J>) -> Register<I, J>
+    ensures { result ≡ no_first register }
+{
+    match register {
+        Register::LongFirst(_) => Register::Unset,
+        _ => register,
+    }
+}
+
+/// The register, unset if it holds the second half of a long.
+fn no_second_half<I: Copy, J: Copy>(register: Register<I, J>) -> Register<I, J>
+    ensures { result ≡ no_second register }
+{
+    match register {
+        Register::LongSecond => Register::Unset,
+        _ => register,
     }
 }

@@ -1,6 +1,7 @@
-ghost use Rattle.std.specs.Prelude.{◌≡◌, ℕ, ◌+◌, ◌≤◌, ◌∷◌, Some, nat_le};
-ghost use Rattle.operands.specs.Stacks.{stacked, slots_of, top_of, rearranged, Pops, Becomes, FewCells};
-ghost use Rattle.operands.specs.declared.stack.StackOp.TheVariants as ops;
+ghost use Rattle.std.specs.Prelude.{◌≡◌, ℕ, ◌+◌, ◌≤◌, ◌∷◌, Some, Err, OnOk, OnErr, length, min, reverse, take};
+ghost use Rattle.operands.specs.Stacks.{FewCells, copied, op_text, rearranged, slots_of, stacked, taken, top_group, top_of};
+
+use std::fmt;
 
 /// The most slots that a stack may take.
 const MOST_SLOTS: u128 = 16;
@@ -26,159 +27,191 @@ pub enum StackOp {
     Swap,
 }
 
-/// How many slots the stack of the first `used` cells takes. A `usize` holds how many cells a slice has, but not always
-/// twice as many.
-pub fn slots<C: Cell>(cells: &[C], used: usize) -> u128
-    ensures { result ≡ slots_of C.size (stacked cells.now used) }
-{
-    let used = used.min(cells.len());
-    let mut sum = 0;
-    for cell in &cells[0..used] {
-        sum += cell.slots() as u128;
-    }
-    sum
-}
+/// Its mnemonic.
+impl fmt::Display for StackOp {
+    ghost output = { λ op. Some (op_text op) };
 
-/// The top of the stack; none where it is empty.
-pub fn peek<C: Cell>(cells: &[C], used: usize) -> Option<C>
-    ensures { result ≡ top_of (stacked cells.now used) }
-{
-    match used.min(cells.len()) {
-        0 => None,
-        n => Some(cells[n - 1]),
+    fn fmt<W: fmt::Write>(&self, f: &mut fmt::Formatter<W>) -> fmt::Result {
+        f.write_str(match self {
+            StackOp::Dup => "dup",
+            StackOp::Dup2 => "dup2",
+            StackOp::Pop => "pop",
+            StackOp::Pop2 => "pop2",
+            StackOp::Swap => "swap",
+        })
     }
 }
 
-/// The top, and how many cells are left below it; none where the stack is empty.
-pub fn pop<C: Cell>(cells: &[C], used: usize) -> Option<(C, usize)>
-    ensures { Pops cells.now used result }
-{
-    match used.min(cells.len()) {
-        0 => None,
-        n => Some((cells[n - 1], n - 1)),
+/// Why a stack is left as it was.
+#[derive(Clone, Copy, Debug, PartialEq, Eq)]
+pub enum StackError {
+    /// The instruction does not fit the cells on top.
+    Unfit,
+    /// The stack would take more than 16 slots, or more cells than were lent.
+    NoRoom,
+}
+
+/// An operand stack in cells that are lent to it: the first `used` of them, the top last.
+#[derive(Drop)]
+pub struct Stack<'a, C> {
+    cells: &'a mut [C],
+    used: usize,
+    ghost within: { used ≤ length cells.now },
+}
+
+impl<'a, C: Cell> Stack<'a, C> {
+    ghost use Rattle.operands.specs.Changes.{Becomes, HasRoom, Pops, held};
+    ghost use Rattle.operands.specs.declared.stack.StackError.{StackError};
+    ghost use Rattle.operands.specs.declared.stack.StackError.TheVariants.{NoRoom};
+    ghost use Rattle.operands.specs.declared.stack.StackOp.TheVariants.{Swap};
+
+    /// The stack of the first `used` cells; where there are fewer, of all of them.
+    pub fn new(cells: &'a mut [C], used: usize) -> Stack<'a, C>
+        ensures lent { result.cells.ghost_name ≡ cells.entry.ghost_name }
+        ensures cells { result.cells.now ≡ cells.old }
+        ensures used { result.used ≡ min used (length cells.old) }
+        ensures stack { held result ≡ stacked cells.old used }
+    {
+        let used = used.min(cells.len());
+        Stack { cells, used }
+    }
+
+    /// How many cells the stack has.
+    pub fn used(&self) -> usize
+        ensures { result ≡ self.now.used }
+    {
+        self.cells().len()
+    }
+
+    /// The cells of the stack, the top last.
+    pub fn cells(&self) -> &[C]
+        ensures list { result.now ≡ take self.now.used self.now.cells.now }
+        ensures stack { held self.now ≡ reverse result.now }
+    {
+        &self.cells[..self.used]
+    }
+
+    /// How many slots the stack takes.
+    pub fn slots(&self) -> u128
+        ensures { result ≡ slots_of C.size (held self.now) }
+    {
+        slots_of(self.cells())
+    }
+
+    /// The top of the stack; none where it is empty.
+    pub fn peek(&self) -> Option<C>
+        ensures { result ≡ top_of (held self.now) }
+    {
+        self.cells().last().copied()
+    }
+
+    /// Takes the top off; none where the stack is empty.
+    pub fn pop(&mut self) -> Option<C>
+        ensures lent { self.new.cells.ghost_name ≡ self.old.cells.ghost_name }
+        ensures taken { Pops self.old result self.new }
+    {
+        let top = self.peek()?;
+        self.used -= 1;
+        Some(top)
+    }
+
+    /// Puts a cell on top. Refuses where there is no room for it.
+    pub fn push(&mut self, cell: C) -> Result<(), StackError>
+        ensures lent { self.new.cells.ghost_name ≡ self.old.cells.ghost_name }
+        ensures becomes { Becomes C.size (Some (cell ∷ held self.old)) self.old result self.new }
+        ensures few { FewCells C.size }
+    {
+        self.check_room(1, cell.slots())?;
+        self.cells[self.used] = cell;
+        self.used += 1;
+        Ok(())
+    }
+
+    /// Carries out `dup`, `dup2`, `pop`, `pop2` or `swap`. Refuses where that does not fit the cells on top, or there is
+    /// no room for what it leaves.
+    pub fn rearrange(&mut self, op: StackOp) -> Result<(), StackError>
+        ensures lent { self.new.cells.ghost_name ≡ self.old.cells.ghost_name }
+        ensures becomes { Becomes C.size (rearranged C.size op (held self.old)) self.old result self.new }
+    {
+        match op {
+            StackOp::Dup => self.copy_group(1),
+            StackOp::Dup2 => self.copy_group(2),
+            StackOp::Pop => self.take_group(1),
+            StackOp::Pop2 => self.take_group(2),
+            StackOp::Swap => self.swap(),
+        }
+    }
+
+    /// Refuses where there is no room for so many cells more, which take so many slots.
+    fn check_room(&self, cells: usize, slots: usize) -> Result<(), StackError>
+        ensures room { OnOk result (HasRoom C.size self.now cells slots) }
+        ensures none { OnErr result (HasRoom C.size self.now cells slots → ⊥) }
+        ensures error { (e : StackError) → result ≡ Err e → e ≡ NoRoom }
+    {
+        if self.cells.len() - self.used < cells || self.slots() + slots as u128 > MOST_SLOTS {
+            return Err(StackError::NoRoom);
+        }
+        Ok(())
+    }
+
+    /// Copies the cells on top that take so many slots.
+    fn copy_group(&mut self, slots: usize) -> Result<(), StackError>
+        ensures lent { self.new.cells.ghost_name ≡ self.old.cells.ghost_name }
+        ensures becomes { Becomes C.size (copied C.size slots (held self.old)) self.old result self.new }
+    {
+        let count = top_group(self.cells(), slots).ok_or(StackError::Unfit)?;
+        self.check_room(count, slots)?;
+        self.cells
+            .copy_within(self.used - count..self.used, self.used);
+        self.used += count;
+        Ok(())
+    }
+
+    /// Takes away the cells on top that take so many slots.
+    fn take_group(&mut self, slots: usize) -> Result<(), StackError>
+        ensures lent { self.new.cells.ghost_name ≡ self.old.cells.ghost_name }
+        ensures becomes { Becomes C.size (taken C.size slots (held self.old)) self.old result self.new }
+    {
+        let count = top_group(self.cells(), slots).ok_or(StackError::Unfit)?;
+        let left = self.used - count;
+        if slots_of(&self.cells()[..left]) > MOST_SLOTS {
+            return Err(StackError::NoRoom);
+        }
+        self.used = left;
+        Ok(())
+    }
+
+    /// Exchanges the two cells of one slot on top.
+    fn swap(&mut self) -> Result<(), StackError>
+        ensures lent { self.new.cells.ghost_name ≡ self.old.cells.ghost_name }
+        ensures becomes { Becomes C.size (rearranged C.size Swap (held self.old)) self.old result self.new }
+    {
+        let [.., second, top] = self.cells() else {
+            return Err(StackError::Unfit);
+        };
+        if second.slots() != 1 || top.slots() != 1 {
+            return Err(StackError::Unfit);
+        }
+        self.check_room(0, 0)?;
+        self.cells.swap(self.used - 2, self.used - 1);
+        Ok(())
     }
 }
 
-/// Puts a cell on top of the first `used` cells and answers how many there are then. Refuses where the stack would take
-/// more than 16 slots or more cells than were lent, and then alters nothing.
-pub fn push<C: Cell>(cells: &mut [C], used: usize, cell: C) -> Option<usize>
-    ensures becomes { Becomes C.size (Some (cell ∷ stacked cells.old used)) cells.old used result cells.new }
-    ensures few { FewCells C.size }
+/// How many slots the cells take together. A `usize` holds how many cells a slice has, but not always twice as many.
+pub fn slots_of<C: Cell>(cells: &[C]) -> u128
+    ensures { result ≡ slots_of C.size cells.now }
 {
-    let used = used.min(cells.len());
-    if used == cells.len() || !slots_suffice(cells, used, cell.slots()) {
-        return None;
-    }
-    cells[used] = cell;
-    Some(used + 1)
+    cells.iter().map(|cell| cell.slots() as u128).sum()
 }
 
-/// Carries out `dup`, `dup2`, `pop`, `pop2` or `swap` on the first `used` cells and answers how many there are then.
-/// Refuses where the instruction does not fit the cells on top, or where the stack that it leaves would take more than
-/// 16 slots or more cells than were lent, and then alters nothing.
-pub fn rearrange<C: Cell>(cells: &mut [C], used: usize, op: StackOp) -> Option<usize>
-    ensures { Becomes C.size (rearranged C.size op (stacked cells.old used)) cells.old used result cells.new }
+/// How many cells on top take so many slots together, where one or two do.
+fn top_group<C: Cell>(stack: &[C], slots: usize) -> Option<usize>
+    ensures { result ≡ top_group C.size slots (reverse stack.now) }
 {
-    match op {
-        StackOp::Dup => dup(cells, used),
-        StackOp::Dup2 => dup2(cells, used),
-        StackOp::Pop => pop_one(cells, used),
-        StackOp::Pop2 => pop_two(cells, used),
-        StackOp::Swap => swap(cells, used),
+    match stack {
+        [.., top] if top.slots() == slots => Some(1),
+        [.., second, top] if second.slots() + top.slots() == slots => Some(2),
+        _ => None,
     }
-}
-
-/// Whether 16 slots suffice for the first `used` cells and `more` slots besides.
-fn slots_suffice<C: Cell>(cells: &[C], used: usize, more: usize) -> bool
-    ensures { result ≡ nat_le (slots_of C.size (stacked cells.now used) + more) 16 }
-{
-    slots(cells, used) + more as u128 <= MOST_SLOTS
-}
-
-/// Leaves the first `used` cells as they are, where they take at most 16 slots.
-fn keep<C: Cell>(cells: &[C], used: usize) -> Option<usize>
-    ensures { Becomes C.size (Some (stacked cells.now used)) cells.now used result cells.now }
-{
-    if slots_suffice(cells, used, 0) {
-        Some(used.min(cells.len()))
-    } else {
-        None
-    }
-}
-
-/// Puts two cells on top of the first `used` cells, or neither.
-fn push_two<C: Cell>(cells: &mut [C], used: usize, second: C, top: C) -> Option<usize>
-    ensures { Becomes C.size (Some (top ∷ second ∷ stacked cells.old used)) cells.old used result cells.new }
-{
-    let used = used.min(cells.len());
-    if cells.len() - used < 2 || !slots_suffice(cells, used, second.slots() + top.slots()) {
-        return None;
-    }
-    cells[used] = second;
-    cells[used + 1] = top;
-    Some(used + 2)
-}
-
-/// Copies a top of one slot.
-fn dup<C: Cell>(cells: &mut [C], used: usize) -> Option<usize>
-    ensures { Becomes C.size (rearranged C.size ops.Dup (stacked cells.old used)) cells.old used result cells.new }
-{
-    let top = peek(cells, used)?;
-    if top.slots() != 1 {
-        return None;
-    }
-    push(cells, used, top)
-}
-
-/// Copies a top of two slots, or the two cells of one slot on top.
-fn dup2<C: Cell>(cells: &mut [C], used: usize) -> Option<usize>
-    ensures { Becomes C.size (rearranged C.size ops.Dup2 (stacked cells.old used)) cells.old used result cells.new }
-{
-    let (top, left) = pop(cells, used)?;
-    if top.slots() == 2 {
-        return push(cells, used, top);
-    }
-    let second = peek(cells, left)?;
-    if second.slots() != 1 {
-        return None;
-    }
-    push_two(cells, used, second, top)
-}
-
-/// Takes away a top of one slot.
-fn pop_one<C: Cell>(cells: &[C], used: usize) -> Option<usize>
-    ensures { Becomes C.size (rearranged C.size ops.Pop (stacked cells.now used)) cells.now used result cells.now }
-{
-    let (top, left) = pop(cells, used)?;
-    if top.slots() != 1 {
-        return None;
-    }
-    keep(cells, left)
-}
-
-/// Takes away a top of two slots, or the two cells of one slot on top.
-fn pop_two<C: Cell>(cells: &[C], used: usize) -> Option<usize>
-    ensures { Becomes C.size (rearranged C.size ops.Pop2 (stacked cells.now used)) cells.now used result cells.now }
-{
-    let (top, left) = pop(cells, used)?;
-    if top.slots() == 2 {
-        return keep(cells, left);
-    }
-    let (second, left) = pop(cells, left)?;
-    if second.slots() != 1 {
-        return None;
-    }
-    keep(cells, left)
-}
-
-/// Exchanges the two cells of one slot on top.
-fn swap<C: Cell>(cells: &mut [C], used: usize) -> Option<usize>
-    ensures { Becomes C.size (rearranged C.size ops.Swap (stacked cells.old used)) cells.old used result cells.new }
-{
-    let (top, left) = pop(cells, used)?;
-    let (second, left) = pop(cells, left)?;
-    if top.slots() != 1 || second.slots() != 1 {
-        return None;
-    }
-    push_two(cells, left, top, second)
 }

@@ -1,17 +1,13 @@
-use Rattle.std.proofs.Common.{refl, arith}
-use Rattle.operands.specs.Registers.{int_cells}
 use Rattle.operands.proofs.Storing.{keeps_pairs}
-use Rattle.operands.proofs.Unsetting.{stored_past, stored_int}
+use Rattle.operands.proofs.Unsetting.{stored_int}
 use Rattle.operands.proofs.registers.store_int.Goals as goal
 
-pub returns-then-n-registers : goal.returns-then-n-registers
-returns-then-n-registers g c = record {
-  value = (stored_past (int_cells c.args.value) c.args.n c.args.registers.now (omega arith), refl);
-  pairs = keeps_pairs _ _;
-}
+pub returns-clause-value : goal.returns-clause-value
+returns-clause-value g c =
+    stored_int c.args.registers.now c.unset_halves.new.registers c.args.n c.args.value c.in_ok-unset_halves.ensures.unset.0 c.in_ok-unset_halves.ensures.unset.1
 
-pub returns : goal.returns
-returns g c = record {
-  value = stored_int c.args.registers.now _ _ c.args.n c.args.value (omega arith) c.unset_first_half.ensures c.unset_second_half.ensures;
-  pairs = keeps_pairs _ _;
-}
+pub returns-in_err-unset_halves-clause-pairs : goal.returns-in_err-unset_halves-clause-pairs
+returns-in_err-unset_halves-clause-pairs g c = keeps_pairs _ _
+
+pub returns-clause-pairs : goal.returns-clause-pairs
+returns-clause-pairs g c = keeps_pairs _ _

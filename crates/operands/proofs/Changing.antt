@@ -1,5 +1,5 @@
 -- What a rearrangement makes of the cells is what it makes of the stack. Assumes nothing.
-use Rattle.std.proofs.Common.{◌≡◌, ℕ, ◌+◌, ◌-◌, ◌<◌, ◌≤◌, max, List, [], ◌∷◌, ◌++◌, length, get_or, take, drop, reverse, Some, Option, option_map, ◌==◌, sym, refl, ap, ◌∙◌, subst, arith, length-append}
+use Rattle.std.proofs.Common.{◌≡◌, ℕ, ◌+◌, ◌-◌, ◌<◌, ◌≤◌, max, List, ◌∷◌, ◌++◌, length, get_or, take, drop, reverse, Some, Option, option_map, sym, refl, ap, ◌∙◌, subst, arith}
 use Rattle.std.specs.List.{copy_within, swap}
 use lib.Seq.{paste}
 use Rattle.std.proofs.lemmas.List.{get_or-take, length-drop, length-take-le, take-take}

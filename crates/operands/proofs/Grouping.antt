@@ -1,9 +1,9 @@
 -- What the cells on top that take one slot or two make of a rearrangement. Assumes nothing.
-use Rattle.std.proofs.Common.{◌≡◌, ℕ, zero, suc, ◌+◌, ◌≤◌, Bool, true, false, cond, ◌&&◌, List, [], ◌∷◌, ◌++◌, length, take, drop, Some, None, Option, option_map, ◌==◌, sym, refl, ap, ◌∙◌, ⊎_elim, arith}
-use Rattle.std.proofs.lemmas.Bool.{and_left, and_right, cases_Bool, cond-true, cond-false, eq-eqb, eqb-true, ne_eqb}
+use Rattle.std.proofs.Common.{◌≡◌, ℕ, zero, suc, ◌+◌, ◌≤◌, Bool, true, false, cond, ◌&&◌, List, [], ◌∷◌, ◌++◌, length, take, drop, Some, option_map, ◌==◌, sym, refl, ap, ◌∙◌, ⊎_elim, arith}
+use Rattle.std.proofs.lemmas.Bool.{and_left, and_right, cases_Bool, cond-true, cond-false, eqb-true, ne_eqb}
 use Rattle.std.proofs.lemmas.List.Sums.{sum_by-cons}
 use Rattle.operands.specs.Stacks.{copied, rearranged, slots_of, taken, top_group, when}
-use Rattle.operands.specs.declared.stack.StackOp.TheVariants.{Dup, Dup2, Pop, Pop2, Swap}
+use Rattle.operands.specs.declared.stack.StackOp.TheVariants.{Dup, Dup2, Pop, Pop2}
 use Rattle.operands.proofs.Storing.{when_some}
 
 -- what is made of a number of cells, where that is one or two
@@ -27,7 +27,7 @@ two_slots (suc (suc a)) (suc b) some_a some_b =
 
 module _ {C : Type 0} (size : C → ℕ) where
   pub group_slots : (n k : ℕ) (s : List C) → top_group size n s ≡ Some k → (k ≤ length s) × (slots_of size (take k s) ≡ n)
-  group_slots n k [] e = absurd (let z : ◌≡◌ {A = ℕ} 0 1 = cc in omega arith)
+  group_slots n k [] e = cc
   group_slots n k (x ∷ []) e =
       let w = when_some (size x == n) 1 k e in
       (omega (arith, w.1), ap (λ m. slots_of size (take m (x ∷ []))) (sym w.1) ∙ omega (arith, sum_by-cons size x [], eqb-true _ _ w.0))

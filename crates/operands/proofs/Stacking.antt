@@ -86,7 +86,7 @@ stacked-swapped (d ∷ ys) n x y h second top =
     ∙ ap (λ z. y ∷ z ∷ stacked cells n) (sym (get_or_read cells (n + 1) x (omega arith) top d))
 
 first : {C : Type 0} (s : List C) (x : C) → top_of s ≡ Some x → (1 ≤ length s) × (s ≡ x ∷ drop 1 s)
-first [] x e = absurd (let z : ◌≡◌ {A = ℕ} 0 1 = cc in omega arith)
+first [] x e = cc
 first (y ∷ s) x e = let same : y ≡ x = cc in (omega arith, ap (λ z. z ∷ s) same)
 
 -- the top is taken off

@@ -10,7 +10,7 @@ use Rattle.operands.specs.Stacks.{when}
 -- what a `when` that is something says
 pub when_some : {X : Type 0} (b : Bool) (x y : X) → when b x ≡ Some y → (b ≡ true) × (x ≡ y)
 when_some true x y e = (refl, cc)
-when_some false x y e = absurd (let z : ◌≡◌ {A = ℕ} 0 1 = cc in omega arith)
+when_some false x y e = cc
 
 module _ {I J : Type 0} where
   -- lengths
@@ -102,7 +102,7 @@ module _ {I J : Type 0} where
   within-get_or (r ∷ rs) (s ∷ ss) (suc n) w = within-get_or rs ss n w.1
 
   int_of_within : (r s : Register I J) (v : I) → Within r s → int_of r ≡ Some v → int_of s ≡ Some v
-  int_of_within Unset s v w e = absurd (let z : ◌≡◌ {A = ℕ} 0 1 = cc in omega arith)
+  int_of_within Unset s v w e = cc
   int_of_within (Int u) s v w e = ap int_of w ∙ e
   int_of_within (LongFirst u) s v w e = ap int_of w ∙ e
   int_of_within LongSecond s v w e = ap int_of w ∙ e
@@ -111,17 +111,17 @@ module _ {I J : Type 0} where
   int_at_within rs ss n v w e = int_of_within (get_or rs n Unset) (get_or ss n Unset) v (within-get_or rs ss n w) e
 
   is_second_within : (r s : Register I J) (u v : J) → Within r s → is_second r u ≡ Some v → is_second s u ≡ Some v
-  is_second_within Unset s u v w e = absurd (let z : ◌≡◌ {A = ℕ} 0 1 = cc in omega arith)
+  is_second_within Unset s u v w e = cc
   is_second_within (Int x) s u v w e = ap (λ (t : Register I J). is_second t u) w ∙ e
   is_second_within (LongFirst x) s u v w e = ap (λ (t : Register I J). is_second t u) w ∙ e
   is_second_within LongSecond s u v w e = ap (λ (t : Register I J). is_second t u) w ∙ e
 
   long_of_within : (r r' s s' : Register I J) (v : J) → Within r s → Within r' s' → long_of r r' ≡ Some v → long_of s s' ≡ Some v
-  long_of_within Unset r' s s' v w w' e = absurd (let z : ◌≡◌ {A = ℕ} 0 1 = cc in omega arith)
-  long_of_within (Int u) r' s s' v w w' e = absurd (let z : ◌≡◌ {A = ℕ} 0 1 = cc in omega arith)
+  long_of_within Unset r' s s' v w w' e = cc
+  long_of_within (Int u) r' s s' v w w' e = cc
   long_of_within (LongFirst u) r' s s' v w w' e =
       ap (λ (t : Register I J). long_of t s') w ∙ is_second_within r' s' u v w' e
-  long_of_within LongSecond r' s s' v w w' e = absurd (let z : ◌≡◌ {A = ℕ} 0 1 = cc in omega arith)
+  long_of_within LongSecond r' s s' v w w' e = cc
 
   pub long_at_within : (rs ss : List (Register I J)) (n : ℕ) (v : J) → AllWithin rs ss → long_at n rs ≡ Some v → long_at n ss ≡ Some v
   long_at_within rs ss n v w e =

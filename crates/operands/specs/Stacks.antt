@@ -1,5 +1,5 @@
 -- The operand stack, over any sort of cell that tells its slots. Assumes nothing.
-use Rattle.std.specs.Prelude.{◌≡◌, ℕ, ◌+◌, ◌≤◌, Bool, cond, ◌&&◌, List, [], ◌∷◌, ◌++◌, reverse, length, take, drop, Some, None, sum_by, Option, option_map, ◌==◌, codes}
+use Rattle.std.specs.Prelude.{ℕ, ◌+◌, ◌≤◌, Bool, cond, ◌&&◌, List, [], ◌∷◌, ◌++◌, reverse, length, take, drop, Some, None, sum_by, Option, option_map, ◌==◌, codes}
 use Rattle.operands.specs.declared.stack.StackOp.{StackOp}
 use Rattle.operands.specs.declared.stack.StackOp.TheVariants.{Dup, Dup2, Pop, Pop2, Swap}
 

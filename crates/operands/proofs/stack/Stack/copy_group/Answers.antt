@@ -1,4 +1,4 @@
-use Rattle.std.proofs.Common.{◌+◌, arith}
+use Rattle.std.proofs.Common.{arith}
 use Rattle.operands.specs.Changes.{held}
 use Rattle.operands.proofs.Changing.{copied_made, group_read}
 use Rattle.operands.proofs.stack.Stack.copy_group.Goals as goal

@@ -1,4 +1,4 @@
-use Rattle.std.proofs.Common.{◌≤◌, length, ap, ◌∙◌, arith}
+use Rattle.std.proofs.Common.{length, ap, ◌∙◌, arith}
 use Rattle.std.proofs.lemmas.List.{length-take-le}
 use Rattle.operands.proofs.Changing.{cell_read, swapped_made}
 use Rattle.operands.proofs.stack.Stack.swap.Goals as goal

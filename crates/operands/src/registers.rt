@@ -58,7 +58,10 @@ pub fn store_long<I: Copy, J: Copy>(
     Ok(())
 }
 
-/// Unsets the halves on both sides of `count` registers from `n` on, where these hold the other halves of them.
+// What is to be stored is not handed in as a slice: the array behind it, of registers whose numbers are of any type, would
+// have to be known to take fewer than 2^63 bytes, and only a caller could know.
+/// Unsets the register before the `count` from `n` on where it holds a first half, and the one after them where it holds a
+/// second half.
 fn unset_halves<I: Copy, J: Copy>(
     registers: &mut [Register<I, J>],
     n: usize,

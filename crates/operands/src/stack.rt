@@ -51,7 +51,8 @@ pub enum StackError {
     NoRoom,
 }
 
-/// An operand stack in cells that are lent to it: the first `used` of them, the top last.
+/// An operand stack in cells that are lent to it: the first `used` of them, the top last. Its methods keep the slice that
+/// was lent, so whoever lent it knows what it holds afterwards.
 #[derive(Drop)]
 pub struct Stack<'a, C> {
     cells: &'a mut [C],
@@ -174,6 +175,7 @@ impl<'a, C: Cell> Stack<'a, C> {
     {
         let count = top_group(self.cells(), slots).ok_or(StackError::Unfit)?;
         let left = self.used - count;
+        // Read through `cells`: after `&self.cells[..left]` itself a proof no longer knows what the cells hold.
         if slots_of(&self.cells()[..left]) > MOST_SLOTS {
             return Err(StackError::NoRoom);
         }

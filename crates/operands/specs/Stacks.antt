@@ -1,5 +1,7 @@
 -- The operand stack, over any sort of cell that tells its slots. Assumes nothing.
 use Rattle.std.specs.Prelude.{ℕ, ◌+◌, ◌≤◌, Bool, cond, ◌&&◌, List, [], ◌∷◌, ◌++◌, reverse, length, take, drop, Some, None, sum_by, Option, option_map, ◌==◌, codes}
+use Rattle.operands.specs.declared.stack.StackError.{StackError}
+use Rattle.operands.specs.declared.stack.StackError.TheVariants.{Unfit, NoRoom}
 use Rattle.operands.specs.declared.stack.StackOp.{StackOp}
 use Rattle.operands.specs.declared.stack.StackOp.TheVariants.{Dup, Dup2, Pop, Pop2, Swap}
 
@@ -27,6 +29,11 @@ op_text Dup2 = codes "dup2"
 op_text Pop = codes "pop"
 op_text Pop2 = codes "pop2"
 op_text Swap = codes "swap"
+
+-- What an error is printed as.
+abbrev pub error_text : StackError → List ℕ
+error_text Unfit = codes "the instruction does not fit the stack"
+error_text NoRoom = codes "the stack has no room"
 
 -- What the instructions that rearrange the stack make of it; none where they do not fit what lies there. `dup`, `pop`
 -- and `swap` act on cells of one slot; `dup2` and `pop2` on one cell of two slots or on two cells of one slot.

@@ -1,11 +1,23 @@
-ghost use Rattle.std.specs.Prelude.{◌≡◌, ◌+◌, ◌<◌, ◌≤◌, ◌++◌, length, take, drop, OnOk, OnErr};
+ghost use Rattle.std.specs.Prelude.{◌≡◌, ◌+◌, ◌<◌, ◌≤◌, ◌++◌, length, take, drop, OnOk, OnErr, Some, codes};
 ghost use Rattle.operands.specs.Registers.{KeepsPairs, StoresAs, ending_whole, starting_whole, no_first, no_second, int_at, int_cells, long_at, long_cells, stored};
 
 use crate::register::Register;
+use std::error::Error;
+use std::fmt;
 
 /// A store names a register that there is not.
 #[derive(Clone, Copy, Debug, PartialEq, Eq)]
 pub struct NoSuchRegister;
+
+impl fmt::Display for NoSuchRegister {
+    ghost output = { λ _. Some (codes "no such register") };
+
+    fn fmt<W: fmt::Write>(&self, f: &mut fmt::Formatter<W>) -> fmt::Result {
+        f.write_str("no such register")
+    }
+}
+
+impl Error for NoSuchRegister {}
 
 /// The int in a register; none where there is no such register, or it holds no int.
 pub fn load_int<I: Copy, J: Copy>(registers: &[Register<I, J>], n: usize) -> Option<I>

@@ -1,6 +1,7 @@
 ghost use Rattle.std.specs.Prelude.{◌≡◌, ℕ, ◌+◌, ◌≤◌, ◌∷◌, Some, Err, OnOk, OnErr, length, min, reverse, take};
-ghost use Rattle.operands.specs.Stacks.{FewCells, copied, op_text, rearranged, slots_of, stacked, taken, top_group, top_of};
+ghost use Rattle.operands.specs.Stacks.{FewCells, copied, error_text, op_text, rearranged, slots_of, stacked, taken, top_group, top_of};
 
+use std::error::Error;
 use std::fmt;
 
 /// The most slots that a stack may take.
@@ -50,6 +51,19 @@ pub enum StackError {
     /// The stack would take more than 16 slots, or more cells than were lent.
     NoRoom,
 }
+
+impl fmt::Display for StackError {
+    ghost output = { λ e. Some (error_text e) };
+
+    fn fmt<W: fmt::Write>(&self, f: &mut fmt::Formatter<W>) -> fmt::Result {
+        f.write_str(match self {
+            StackError::Unfit => "the instruction does not fit the stack",
+            StackError::NoRoom => "the stack has no room",
+        })
+    }
+}
+
+impl Error for StackError {}
 
 /// An operand stack in cells that are lent to it: the first `used` of them, the top last. Its methods keep the slice that
 /// was lent, so whoever lent it knows what it holds afterwards.

@@ -1,16 +1,17 @@
 -- How far the captions were shown: of a line, word by word, and of a text, line by line. Assumes nothing.
-use Rattle.std.proofs.Common.{◌≡◌, ℕ, ◌+◌, ◌≤◌, List, [], ◌∷◌, ◌++◌, length, take, drop, Some, None, Ok, Err, sym, ap, ◌∙◌, subst, append_assoc, append-nil, arith, length-append}
-use Rattle.std.specs.List.{flat_map}
+use Rattle.std.proofs.Common.{◌≡◌, ℕ, ◌+◌, ◌-◌, ◌≤◌, List, [], ◌∷◌, ◌++◌, length, get_or, take, drop, Some, None, Ok, Err, true, sym, ap, ◌∙◌, subst, append_assoc, append-nil, arith, length-append}
+use Rattle.std.specs.List.{flat_map, list_all}
+use Rattle.std.proofs.lemmas.Bool.{cond-true}
 use Rattle.std.proofs.lemmas.List.Sums.{sum_by_more}
 use Rattle.captions.specs.Captions.{captions_of, line_captions, quotes}
-use Rattle.captions.specs.Sheets.{ProofSheet, Shown, ShowsFirst, ShowsLine}
-use Rattle.captions.specs.declared.sheet.SheetFault.{SheetFault}
-use Rattle.captions.specs.declared.sheet.SheetFault.TheVariants.{NoRoom, Refused}
+use Rattle.captions.specs.Sheets.{ProofSheet, Shown, ShowsFirst}
+use Rattle.captions.specs.declared.sheet.SheetFault.TheVariants.{NoRoom}
 use Rattle.captions.proofs.Joining.{joined_front, joined_parts}
 use Rattle.captions.proofs.Quoting.{line_words, quotes-append}
 use Rattle.captions.proofs.Showing.{shown_none, shown_one, shown_then, first_then, full_here}
 use Rattle.devices.specs.Panels.{PanelState, Room, shown_on}
 use Rattle.reader.proofs.Refusing.{readable_line}
+use Rattle.reader.specs.Bytes.{is_allowed}
 use Rattle.reader.specs.Arises.{Readable}
 use Rattle.reader.specs.Lines.{lines, line_start, IsLine}
 use Rattle.reader.specs.declared.line.Line.{Line}
@@ -110,29 +111,39 @@ pub record LinesShown (p : PanelState) (text : List ℕ) (k : ℕ) (q : PanelSta
   pub counts : n ≡ length (flat_map line_captions (take k (lines text)))
   pub few : n ≤ line_start text k
 
-module _ (text : List ℕ) (readable : Readable text) (k : ℕ) (line : Line) (is : IsLine text k line) (p q r : PanelState) (n : ℕ) (so : LinesShown p text k q n) where
-  -- a line more
-  pub line_more : (m given : ℕ) → given ≡ k + 1 → ShowsLine line.bytes.now n q (Ok m) r → LinesShown p text given r m
-  line_more m given next told =
-      let words = line_words text k line readable is in
-      let shows = told.1 words.0 words.1 in
-      let front : flat_map line_captions (take (k + 1) (lines text)) ≡ flat_map line_captions (take k (lines text)) ++ quotes words.0 =
-      joined_front line_captions (lines text) k [] is.within ∙ ap (λ l. flat_map line_captions (take k (lines text)) ++ l) (sym words.2) in
-      subst (λ j. LinesShown p text j r m) (sym next) (record {
-        shows = subst (λ l. Shown p l r) (sym front) (shown_then p q r _ _ so.shows shows.1);
-        counts = omega (arith, shows.0, so.counts, ap length front, length-append (flat_map line_captions (take k (lines text))) (quotes words.0));
-        few = omega (arith, so.few, told.0, sum_by_more (λ l. length l + 1) (lines text) k [] is.within, ap length is.bytes);
-      })
+module _ (text : List ℕ) (readable : Readable text) (k : ℕ) (line : Line) (is : IsLine text k line) where
+  -- the line is not refused
+  pub line_read : words line.bytes.now ≡ None → ⊥
+  line_read none = readable_line text readable k is.within (ap words (sym is.bytes) ∙ none)
 
-  -- a line of which a caption finds no room; none is refused
-  pub line_fails : (fault : SheetFault) → ShowsLine line.bytes.now n q (Err fault) r → ProofSheet text p (Err fault) r
-  line_fails (NoRoom m) told =
-      let words = line_words text k line readable is in
-      let here = told words.0 words.1 in
-      let front = flat_map line_captions (take k (lines text)) in
-      let rest = flat_map line_captions (drop (k + 1) (lines text)) in
-      let first : ShowsFirst p (front ++ (quotes words.0 ++ rest)) (n + here.0) r = first_then p q r front (quotes words.0) rest n here.0 so.counts so.shows here.2 in
-      let whole : front ++ (quotes words.0 ++ rest) ≡ captions_of text =
-      ap (λ l. front ++ (l ++ rest)) words.2 ∙ sym (joined_parts line_captions (lines text) k [] is.within) in
-      (readable, subst (λ c. ShowsFirst p (captions_of text) c r) (sym here.1) (subst (λ l. ShowsFirst p l (n + here.0) r) whole first))
-  line_fails (Refused fault) told = absurd (readable_line text readable k is.within (ap words (sym is.bytes) ∙ told))
+  module _ (p q r : PanelState) (n : ℕ) (so : LinesShown p text k q n) (allowed : list_all is_allowed line.bytes.now ≡ true) (m : ℕ) (more : n ≤ m) where
+    -- its captions, and that they can be read
+    found_in : (ws : List Piece) × (words_from line.bytes.now 0 ≡ Some ws) × (quotes ws ≡ line_captions (get_or (lines text) k []))
+    found_in = let some = line_words text k line readable is in (some.0, sym (cond-true _ _ _ allowed) ∙ some.1, some.2)
+
+    abbrev front : List (List ℕ)
+    front = flat_map line_captions (take k (lines text))
+
+    -- a line more was shown
+    pub line_more : (given : ℕ) → given ≡ k + 1 → m - n ≤ length line.bytes.now → ((ws : List Piece) → words_from line.bytes.now 0 ≡ Some ws → (m - n ≡ length (quotes ws)) × Shown q (quotes ws) r) → LinesShown p text given r m
+    line_more given next few told =
+        let some = found_in in
+        let shows = told some.0 some.1 in
+        let whole : flat_map line_captions (take (k + 1) (lines text)) ≡ front ++ quotes some.0 =
+        joined_front line_captions (lines text) k [] is.within ∙ ap (λ l. front ++ l) (sym some.2) in
+        subst (λ j. LinesShown p text j r m) (sym next) (record {
+          shows = subst (λ l. Shown p l r) (sym whole) (shown_then p q r _ _ so.shows shows.1);
+          counts = omega (arith, shows.0, more, so.counts, ap length whole, length-append front (quotes some.0));
+          few = omega (arith, so.few, few, more, sum_by_more (λ l. length l + 1) (lines text) k [] is.within, ap length is.bytes);
+        })
+
+    -- a caption of the line found no room
+    pub line_full : ((ws : List Piece) → words_from line.bytes.now 0 ≡ Some ws → ShowsFirst q (quotes ws) (m - n) r) → ProofSheet text p (Err (NoRoom m)) r
+    line_full told =
+        let some = found_in in
+        let rest = flat_map line_captions (drop (k + 1) (lines text)) in
+        let first = first_then p q r front (quotes some.0) rest n (m - n) so.counts so.shows (told some.0 some.1) in
+        let whole : front ++ (quotes some.0 ++ rest) ≡ captions_of text =
+        ap (λ l. front ++ (l ++ rest)) some.2 ∙ sym (joined_parts line_captions (lines text) k [] is.within) in
+        let count : n + (m - n) ≡ m = omega (arith, more) in
+        (readable, subst (λ c. ShowsFirst p (captions_of text) c r) count (subst (λ l. ShowsFirst p l (n + (m - n)) r) whole first))

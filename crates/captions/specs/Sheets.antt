@@ -1,14 +1,13 @@
 -- What a proof sheet shows. Assumes nothing.
-use Rattle.std.specs.Prelude.{◌≡◌, ℕ, ◌+◌, ◌<◌, ◌≤◌, List, [], ◌++◌, length, take, Some, None, Ok, Err, sum_by, Result, slice_index_or, codes, decimal}
+use Rattle.std.specs.Prelude.{◌≡◌, ℕ, ◌+◌, ◌<◌, List, [], ◌++◌, length, take, Ok, Err, sum_by, Result, slice_index_or, codes, decimal}
 use Rattle.std.specs.List.{flat_map}
-use Rattle.captions.specs.Captions.{captions_of, quotes}
+use Rattle.captions.specs.Captions.{captions_of}
 use Rattle.captions.specs.declared.sheet.SheetFault.{SheetFault}
 use Rattle.captions.specs.declared.sheet.SheetFault.TheVariants as fault
 use Rattle.devices.specs.Costs.{cost}
 use Rattle.devices.specs.Panels.{PanelState, Room}
 use Rattle.reader.specs.Arises.{Readable, Refused}
 use Rattle.reader.specs.Faults.{fault_text}
-use Rattle.reader.specs.Words.{Piece, words}
 
 -- `Shown p texts q`: the panel p has become q by showing the texts. They follow what was shown, in order,
 -- and the units that were left are those that are left now and the texts' costs.
@@ -30,13 +29,6 @@ abbrev pub ProofSheet : List ℕ → PanelState → Result ℕ SheetFault → Pa
 ProofSheet text p (Ok n) q = Readable text × ShowsAll p (captions_of text) n q
 ProofSheet text p (Err (fault.NoRoom n)) q = Readable text × ShowsFirst p (captions_of text) n q
 ProofSheet text p (Err (fault.Refused f)) q = Refused text f × (q ≡ p)
-
--- The captions of a readable line are shown, and m, those of the lines before, is counted on. The count never grows by more
--- than the line has bytes.
-abbrev pub ShowsLine : List ℕ → ℕ → PanelState → Result ℕ SheetFault → PanelState → Type 0
-ShowsLine line m p (Ok n) q = (n ≤ m + length line) × ((ws : List Piece) → words line ≡ Some ws → (n ≡ m + length (quotes ws)) × Shown p (quotes ws) q)
-ShowsLine line m p (Err (fault.NoRoom n)) q = (ws : List Piece) → words line ≡ Some ws → (k : ℕ) × (n ≡ m + k) × ShowsFirst p (quotes ws) k q
-ShowsLine line m p (Err (fault.Refused f)) q = words line ≡ None
 
 -- What a sheet's fault prints as.
 abbrev pub sheet_fault_text : SheetFault → List ℕ

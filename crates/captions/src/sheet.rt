@@ -1,12 +1,12 @@
-ghost use Rattle.std.specs.Prelude.{◌≡◌, ℕ, ◌+◌, ◌^◌, ◌<◌, [], ◌∷◌, length, Some, MatchOption};
+ghost use Rattle.std.specs.Prelude.{◌≡◌, ℕ, [], ◌∷◌, Some, MatchOption};
 ghost use Rattle.captions.specs.Captions.{quotes};
-ghost use Rattle.captions.specs.Sheets.{ProofSheet, ShowsLine, sheet_fault_text};
+ghost use Rattle.captions.specs.Sheets.{ProofSheet, sheet_fault_text};
 ghost use Rattle.captions.specs.declared.sheet.SheetFault.TheVariants.{Refused};
 ghost use Rattle.reader.specs.Faults.{word_fault};
 ghost use Rattle.reader.specs.Tokens.{at_place};
 
 use devices::{NoRoom, Panel};
-use reader::{Fault, Line, Lines, Word, WordFault, Words, check_text};
+use reader::{Fault, Lines, Word, WordFault, Words, check_text};
 use std::error::Error;
 use std::fmt;
 
@@ -57,22 +57,12 @@ pub fn proof_sheet<P: Panel>(text: &[u8], panel: &mut P) -> Result<usize, SheetF
     check_text(text)?;
     let mut shown = 0;
     for line in Lines::new(text) {
-        shown = show_line(line, shown, panel)?;
-    }
-    Ok(shown)
-}
-
-/// Shows the captions of a line, where those of the lines before were `before`, and answers how many there are then.
-fn show_line<P: Panel>(line: Line<'_>, before: usize, panel: &mut P) -> Result<usize, SheetFault>
-    requires { before + length line.bytes.now < 2 ^ 64 }
-    ensures { ShowsLine line.entry.bytes.now before (P.state panel.old) result (P.state panel.new) }
-{
-    let mut shown = before;
-    for token in Words::of(line)? {
-        if let Some(caption) = caption(token?.word) {
-            match panel.show(caption) {
-                Ok(()) => shown += 1,
-                Err(NoRoom) => return Err(SheetFault::NoRoom(shown)),
+        for token in Words::of(line)? {
+            if let Some(caption) = caption(token?.word) {
+                match panel.show(caption) {
+                    Ok(()) => shown += 1,
+                    Err(NoRoom) => return Err(SheetFault::NoRoom(shown)),
+                }
             }
         }
     }

@@ -1,7 +1,7 @@
 //! Proof sheets on panels with few units.
 use crate::report::print_fault;
 use captions::{SheetFault, proof_sheet};
-use devices::{Frames, Panel, Roll};
+use devices::{BufferPanel, Format, HexLines, Panel, Plain};
 use std::io;
 
 /// A scene text, and the units of the panel that it is shown on: a roll and then frames.
@@ -32,30 +32,28 @@ const CASES: [Case; 14] = [
 
 pub(crate) fn print_all(rt: &HostRuntime) -> io::Result<()> {
     for (text, units) in CASES {
-        print_roll(rt, text, units)?;
-        print_frames(rt, text, units)?;
+        print_sheet::<Plain>(rt, "roll", text, units)?;
+        print_sheet::<HexLines>(rt, "frames", text, units)?;
     }
     Ok(())
 }
 
-fn print_roll(rt: &HostRuntime, text: &[u8], units: usize) -> io::Result<()> {
-    println!(rt; "roll {units} [{}]", text.escape_ascii())?;
+/// Prints a sheet on a panel with so many units.
+fn print_sheet<F: Format>(
+    rt: &HostRuntime,
+    panel_name: &str,
+    text: &[u8],
+    units: usize,
+) -> io::Result<()> {
+    println!(rt; "{panel_name} {units} [{}]", text.escape_ascii())?;
     let mut buffer = vec![in rt.alloc(); 0u8; units]?;
-    let mut roll = Roll::new(&mut buffer);
-    print_sheet(rt, proof_sheet(text, &mut roll))?;
-    print_panel(rt, roll.units(), roll.written())
-}
-
-fn print_frames(rt: &HostRuntime, text: &[u8], units: usize) -> io::Result<()> {
-    println!(rt; "frames {units} [{}]", text.escape_ascii())?;
-    let mut buffer = vec![in rt.alloc(); 0u8; units]?;
-    let mut frames = Frames::new(&mut buffer);
-    print_sheet(rt, proof_sheet(text, &mut frames))?;
-    print_panel(rt, frames.units(), frames.written())
+    let mut panel = BufferPanel::<F>::new(&mut buffer);
+    print_end(rt, proof_sheet(text, &mut panel))?;
+    print_panel(rt, panel.units(), panel.written())
 }
 
 /// Prints how a sheet ended, and how many captions it shows.
-fn print_sheet(rt: &HostRuntime, sheet: Result<usize, SheetFault>) -> io::Result<()> {
+fn print_end(rt: &HostRuntime, sheet: Result<usize, SheetFault>) -> io::Result<()> {
     match sheet {
         Ok(shown) => println!(rt; "complete {shown}"),
         Err(SheetFault::Refused(fault)) => print_fault(rt, fault),

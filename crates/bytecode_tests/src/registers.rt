@@ -11,32 +11,32 @@ enum Step<I, J> {
     LoadLong(usize),
 }
 
-static KINDS: [&[Step<Unknown, Unknown>]; 4] = [
+static KINDS: [&[Step<(), ()>]; 4] = [
     &[
-        Step::StoreInt(0, Unknown),
+        Step::StoreInt(0, ()),
         Step::LoadInt(0),
         Step::LoadInt(1),
         Step::LoadLong(0),
     ],
     &[
-        Step::StoreLong(0, Unknown),
+        Step::StoreLong(0, ()),
         Step::LoadLong(0),
         Step::LoadLong(1),
         Step::LoadInt(0),
         Step::LoadInt(1),
     ],
     &[
-        Step::StoreLong(14, Unknown),
-        Step::StoreLong(15, Unknown),
-        Step::StoreInt(16, Unknown),
+        Step::StoreLong(14, ()),
+        Step::StoreLong(15, ()),
+        Step::StoreInt(16, ()),
         Step::LoadLong(15),
         Step::LoadInt(16),
     ],
     &[
-        Step::StoreLong(3, Unknown),
-        Step::StoreInt(3, Unknown),
-        Step::StoreLong(3, Unknown),
-        Step::StoreInt(4, Unknown),
+        Step::StoreLong(3, ()),
+        Step::StoreInt(3, ()),
+        Step::StoreLong(3, ()),
+        Step::StoreInt(4, ()),
         Step::LoadInt(3),
     ],
 ];
@@ -100,7 +100,7 @@ pub fn cases(rt: &HostRuntime) -> io::Result<()> {
 }
 
 /// For each case a line, over registers that are all unset at first.
-fn lines<I: Copy + fmt::Display, J: Copy + fmt::Display>(
+fn lines<I: Held, J: Held>(
     rt: &HostRuntime,
     sort: &str,
     all: &mut [Register<I, J>],
@@ -115,7 +115,7 @@ fn lines<I: Copy + fmt::Display, J: Copy + fmt::Display>(
 }
 
 /// Each step, with what a load gives or the registers after a store, and `no` where it is refused.
-fn carry_out<I: Copy + fmt::Display, J: Copy + fmt::Display>(
+fn carry_out<I: Held, J: Held>(
     rt: &HostRuntime,
     all: &mut [Register<I, J>],
     steps: &[Step<I, J>],
@@ -145,14 +145,14 @@ fn carry_out<I: Copy + fmt::Display, J: Copy + fmt::Display>(
     println!(rt)
 }
 
-fn print_loaded<V: fmt::Display + Drop>(rt: &HostRuntime, value: Option<V>) -> io::Result<()> {
+fn print_loaded<V: Held>(rt: &HostRuntime, value: Option<V>) -> io::Result<()> {
     match value {
-        Some(value) => print!(rt; " ={value}"),
+        Some(value) => print!(rt; " ={}", Number(value)),
         None => print!(rt; " no"),
     }
 }
 
-fn print_stored<I: Copy + fmt::Display, J: Copy + fmt::Display>(
+fn print_stored<I: Held, J: Held>(
     rt: &HostRuntime,
     done: Result<(), NoSuchRegister>,
     all: &[Register<I, J>],
@@ -164,13 +164,36 @@ fn print_stored<I: Copy + fmt::Display, J: Copy + fmt::Display>(
     print!(rt; " ]")
 }
 
-/// What a frame knows of a number besides its kind, which is nothing.
-#[derive(Clone, Copy)]
-struct Unknown;
+/// What a register holds: nothing more than the kind in a frame of kinds, and the number in a record.
+trait Held: Copy {
+    fn fmt<W: fmt::Write>(self, f: &mut fmt::Formatter<W>) -> fmt::Result;
+}
 
-impl fmt::Display for Unknown {
-    fn fmt<W: fmt::Write>(&self, _f: &mut fmt::Formatter<W>) -> fmt::Result {
+impl Held for () {
+    fn fmt<W: fmt::Write>(self, _f: &mut fmt::Formatter<W>) -> fmt::Result {
         Ok(())
+    }
+}
+
+impl Held for i32 {
+    fn fmt<W: fmt::Write>(self, f: &mut fmt::Formatter<W>) -> fmt::Result {
+        write!(f, "{self}")
+    }
+}
+
+impl Held for i64 {
+    fn fmt<W: fmt::Write>(self, f: &mut fmt::Formatter<W>) -> fmt::Result {
+        write!(f, "{self}")
+    }
+}
+
+/// What a register holds, as it is printed.
+#[derive(Clone, Copy)]
+struct Number<V>(V);
+
+impl<V: Held> fmt::Display for Number<V> {
+    fn fmt<W: fmt::Write>(&self, f: &mut fmt::Formatter<W>) -> fmt::Result {
+        self.0.fmt(f)
     }
 }
 
@@ -178,12 +201,12 @@ impl fmt::Display for Unknown {
 #[derive(Clone, Copy)]
 struct Shown<I, J>(Register<I, J>);
 
-impl<I: Copy + fmt::Display, J: Copy + fmt::Display> fmt::Display for Shown<I, J> {
+impl<I: Held, J: Held> fmt::Display for Shown<I, J> {
     fn fmt<W: fmt::Write>(&self, f: &mut fmt::Formatter<W>) -> fmt::Result {
         match self.0 {
             Register::Unset => write!(f, "u"),
-            Register::Int(value) => write!(f, "I{value}"),
-            Register::LongFirst(value) => write!(f, "J{value}"),
+            Register::Int(value) => write!(f, "I{}", Number(value)),
+            Register::LongFirst(value) => write!(f, "J{}", Number(value)),
             Register::LongSecond => write!(f, "j"),
         }
     }

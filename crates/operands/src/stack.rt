@@ -214,6 +214,15 @@ impl<'a, C: Cell> Stack<'a, C> {
     }
 }
 
+/// The cells of the stack of the first `used` cells, the top last, for whoever is lent them only to read; where there are
+/// fewer, all of them.
+pub fn cells_in_use<C>(cells: &[C], used: usize) -> &[C]
+    ensures list { result.now ≡ take used cells.now }
+    ensures stack { reverse result.now ≡ stacked cells.now used }
+{
+    &cells[..used.min(cells.len())]
+}
+
 /// How many slots the cells take together. A `usize` holds how many cells a slice has, but not always twice as many.
 pub fn slots_of<C: Cell>(cells: &[C]) -> u128
     ensures { result ≡ slots_of C.size cells.now }

@@ -26,15 +26,15 @@ use Rattle.reader.specs.declared.words.Words.{Words}
 -- them, and n is how many there are.
 pub record WordsShown (p : PanelState) (line : List ℕ) (w : Words) (q : PanelState) (n : ℕ) : Type 0 where
   pub ws : List Piece
-  pub read : words_from line 0 ≡ onto ws (words_from w.line.now w.at)
+  pub read : words_from line 0 ≡ onto ws (words_from w.line.bytes.now w.at)
   pub shows : Shown p (quotes ws) q
   pub counts : n ≡ length (quotes ws)
   pub few : n ≤ w.at
   pub within : w.at ≤ length line
-  pub same : w.line.now ≡ line
+  pub same : w.line.bytes.now ≡ line
 
 -- at the front of the line nothing is read
-pub none_read : (p : PanelState) (line : List ℕ) (w : Words) (n : ℕ) → w.line.now ≡ line → w.at ≡ 0 → n ≡ 0 → WordsShown p line w p n
+pub none_read : (p : PanelState) (line : List ℕ) (w : Words) (n : ℕ) → w.line.bytes.now ≡ line → w.at ≡ 0 → n ≡ 0 → WordsShown p line w p n
 none_read p line w n same front none = record {
   ws = [];
   read = sym (λ i. words_from (same i) (front i));
@@ -68,12 +68,12 @@ module _ (p : PanelState) (line : List ℕ) (w : Words) (q : PanelState) (n : �
         let both = quotes-append so.ws (found ∷ []) in
         record {
           ws = so.ws ++ found ∷ [];
-          read = so.read ∙ ap (onto so.ws) gave.words ∙ sym (onto_push so.ws found (words_from v.line.now v.at));
+          read = so.read ∙ ap (onto so.ws) gave.words ∙ sym (onto_push so.ws found (words_from v.line.bytes.now v.at));
           shows = subst (λ l. Shown p l r) (sym both) shows;
           counts = counts ∙ ap length (sym both);
           few = omega (arith, so.few, gave.moves.0);
           within = omega (arith, gave.moves.1.0, ap length so.same);
-          same = ap (λ b. b.now) gave.moves.1.1.0 ∙ so.same;
+          same = ap (λ l. l.bytes.now) gave.moves.1.1 ∙ so.same;
         }
 
     -- a word that is no caption is passed over
@@ -94,7 +94,7 @@ module _ (p : PanelState) (line : List ℕ) (w : Words) (q : PanelState) (n : �
       -- a caption finds no room
       pub full_then : (Room q text → ⊥) → (r : PanelState) → r ≡ q → (ws : List Piece) → words_from line 0 ≡ Some ws → ShowsFirst p (quotes ws) n r
       full_then full r stays ws all =
-          let left = words_from v.line.now v.at in
+          let left = words_from v.line.bytes.now v.at in
           let from_front : onto (so.ws ++ found ∷ []) left ≡ Some ws = onto_push so.ws found left ∙ sym (so.read ∙ ap (onto so.ws) gave.words) ∙ all in
           let parts = onto_parts (so.ws ++ found ∷ []) ws left from_front in
           let texts : quotes ws ≡ quotes so.ws ++ (text ∷ [] ++ quotes parts.0) =

@@ -32,14 +32,14 @@ answered (Err fault) rest = None
 
 -- The words of a line are read from its front; or the line has a byte that no line may have.
 abbrev pub Opens : Line → Result Words WordFault → Type 0
-Opens line (Ok w) = (list_all is_allowed line.bytes.now ≡ true) × ((w.line.now ≡ line.bytes.now) × ((w.at ≡ 0) × (w.number ≡ line.number)))
+Opens line (Ok w) = (list_all is_allowed line.bytes.now ≡ true) × ((w.line ≡ line) × (w.at ≡ 0))
 Opens line (Err fault) = (list_all is_allowed line.bytes.now ≡ false) × (fault.line ≡ line.number)
 
 -- How far the reader comes with an answer: past the word; or nowhere, and a fault names the line.
 abbrev pub Moves : Words → Result (Option Token) WordFault → Words → Type 0
 Moves w (Ok None) v = v ≡ w
-Moves w (Ok (Some token)) v = (w.at < v.at) × ((v.at ≤ length w.line.now) × ((v.line ≡ w.line) × (v.number ≡ w.number)))
-Moves w (Err fault) v = (v ≡ w) × (fault.line ≡ w.number)
+Moves w (Ok (Some token)) v = (w.at < v.at) × ((v.at ≤ length w.line.bytes.now) × (v.line ≡ w.line))
+Moves w (Err fault) v = (v ≡ w) × (fault.line ≡ w.line.number)
 
 -- A word's part is that part of the line.
 abbrev pub IsPart : List ℕ → Result (Option Token) WordFault → Type 0
@@ -50,10 +50,10 @@ IsPart line (Err fault) = Unit {0}
 -- How far the iterator comes with an answer: as far as `Moves` says; or to the line's end, and a fault names the line.
 abbrev pub MovesOn : Words → Result (Option Token) WordFault → Words → Type 0
 MovesOn w (Ok found) v = Moves w (Ok found) v
-MovesOn w (Err fault) v = (v.line ≡ w.line) × ((v.at ≡ length w.line.now) × ((v.number ≡ w.number) × (fault.line ≡ w.number)))
+MovesOn w (Err fault) v = (v.line ≡ w.line) × ((v.at ≡ length w.line.bytes.now) × (fault.line ≡ w.line.number))
 
 -- What the iterator over a line's words gives: the word or the fault that the word reader answers; none comes after a fault.
 pub record GivesWord (w : Words) (found : Option (Result Token WordFault)) (v : Words) : Type 0 where
-  pub words : words_from w.line.now w.at ≡ answered (option_transpose found) (words_from v.line.now v.at)
-  pub part : IsPart w.line.now (option_transpose found)
+  pub words : words_from w.line.bytes.now w.at ≡ answered (option_transpose found) (words_from v.line.bytes.now v.at)
+  pub part : IsPart w.line.bytes.now (option_transpose found)
   pub moves : MovesOn w (option_transpose found) v

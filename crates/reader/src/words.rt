@@ -19,11 +19,9 @@ pub struct Token<'a> {
 /// Gives the words of a line, one after another.
 #[derive(Drop)]
 pub struct Words<'a> {
-    line: &'a [u8],
+    line: Line<'a>,
     /// Where reading goes on.
     at: usize,
-    /// The line's number.
-    number: usize,
 }
 
 impl<'a> Words<'a> {
@@ -31,15 +29,10 @@ impl<'a> Words<'a> {
     pub fn of(line: Line<'a>) -> Result<Words<'a>, WordFault>
         ensures { Opens line.entry result }
     {
-        let bytes = line.bytes;
-        if !bytes.iter().all(|b| is_allowed(*b)) {
+        if !line.bytes.iter().all(|b| is_allowed(*b)) {
             return Err(WordFault { line: line.number });
         }
-        Ok(Words {
-            line: bytes,
-            at: 0,
-            number: line.number,
-        })
+        Ok(Words { line, at: 0 })
     }
 
     /// The next word; none where only blanks and a comment are left.
@@ -47,12 +40,12 @@ impl<'a> Words<'a> {
     // Kept beside the iterator: an iterator has to end, and one that altered nothing at a fault would give it again and again.
     #[tactic(auto, using(crate::proofs::Spelling::grammatical))]
     pub fn next_word(&mut self) -> Result<Option<Token<'a>>, WordFault>
-        ensures words { words_from self.old.line.now self.old.at ≡ answered result (words_from self.new.line.now self.new.at) }
+        ensures words { words_from self.old.line.bytes.now self.old.at ≡ answered result (words_from self.new.line.bytes.now self.new.at) }
         ensures grammar { Grammatical }
-        ensures part { IsPart self.old.line.now result }
+        ensures part { IsPart self.old.line.bytes.now result }
         ensures moves { Moves self.old result self.new }
     {
-        let line = self.line;
+        let line = self.line.bytes;
         let start = run_end(line, self.at, is_blank);
         match line.get(start) {
             // Blanks run to the line's end.
@@ -63,7 +56,9 @@ impl<'a> Words<'a> {
                 let place = start + 1;
                 let end = run_end(line, place, is_quotable);
                 let Some(b'"') = line.get(end) else {
-                    return Err(WordFault { line: self.number });
+                    return Err(WordFault {
+                        line: self.line.number,
+                    });
                 };
                 self.at = end + 1;
                 let word = Word::Quoted(&line[place..end]);
@@ -84,13 +79,13 @@ impl<'a> Iterator for Words<'a> {
 
     ghost next_gives = { GivesWord };
 
-    ghost remaining = { λ w. at_most (length w.line.now - w.at) };
+    ghost remaining = { λ w. at_most (length w.line.bytes.now - w.at) };
 
     /// The next word, or the fault that `next_word` answers, after which no more come.
     fn next(&mut self) -> Option<Result<Token<'a>, WordFault>> {
         let word = self.next_word();
         if word.is_err() {
-            self.at = self.line.len();
+            self.at = self.line.bytes.len();
         }
         word.transpose()
     }

@@ -13,8 +13,8 @@ this_line : (g : Over) (c : In-Some g) → IsLine c.args.text.now c.loop-line.li
 this_line g c = subst (λ t. IsLine t c.loop-line.line-iterator.given c.in-Some.line) c.loop-line.invariant.same c.in-Some.ensures.steps.0.0
 
 -- the words are those of the line
-these_words : (g : Over) (c : After-into_iter-token-iterator g) → c.into_iter-token-iterator.result.line.now ≡ c.in-Some.line.bytes.now
-these_words g c = ap (λ w. w.line.now) c.into_iter-token-iterator.ensures.into_iter_gives ∙ c.in_ok-token-items.ensures.1.0
+these_words : (g : Over) (c : After-into_iter-token-iterator g) → c.into_iter-token-iterator.result.line.bytes.now ≡ c.in-Some.line.bytes.now
+these_words g c = ap (λ w. w.line.bytes.now) c.into_iter-token-iterator.ensures.into_iter_gives ∙ ap (λ l. l.bytes.now) c.in_ok-token-items.ensures.1.0
 
 this_word : (g : Over) (c : In_ok-token g) → GivesWord c.loop-token.token-iterator (Some (Ok c.in_ok-token.field-0)) c.next-in-loop-token.new.self
 this_word g c = subst (λ r. GivesWord c.loop-token.token-iterator (Some r) c.next-in-loop-token.new.self) c.in_ok-token.was c.in-Some-token.ensures.steps
@@ -26,11 +26,11 @@ returns-in_err-token-items g c =
 
 pub loop-token-init : goal.loop-token-init
 loop-token-init g c =
-    let front = ap (λ w. w.at) c.into_iter-token-iterator.ensures.into_iter_gives ∙ c.in_ok-token-items.ensures.1.1.0 in
+    let front = ap (λ w. w.at) c.into_iter-token-iterator.ensures.into_iter_gives ∙ c.in_ok-token-items.ensures.1.1 in
     record {
       can = tt;
       finite = tt;
-      before = none_read _ c.into_iter-token-iterator.result.line.now _ (c.loop-line.shown - c.loop-line.shown) (λ _. c.into_iter-token-iterator.result.line.now) front (omega arith);
+      before = none_read _ c.into_iter-token-iterator.result.line.bytes.now _ (c.loop-line.shown - c.loop-line.shown) (λ _. c.into_iter-token-iterator.result.line.bytes.now) front (omega arith);
       counts = omega arith;
     }
 

@@ -16,6 +16,6 @@ abbrev pub invariant-loop-token : goal.invariant-loop-token
 invariant-loop-token g l = record {
   can : (goal.iterator-loop-token g).can_next l.token-iterator;
   finite : (goal.iterator-loop-token g).is_finite l.token-iterator;
-  before : WordsShown (g.P.Panel.state l.initial.panel) l.initial.token-iterator.line.now l.token-iterator (g.P.Panel.state l.panel) (l.shown - l.initial.shown);
+  before : WordsShown (g.P.Panel.state l.initial.panel) l.initial.token-iterator.line.bytes.now l.token-iterator (g.P.Panel.state l.panel) (l.shown - l.initial.shown);
   counts : l.initial.shown ≤ l.shown;
 }

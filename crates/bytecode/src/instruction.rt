@@ -55,6 +55,7 @@ pub enum Constant {
     /// `ldc2_w`.
     Long(i64),
     /// `ldc_w` with a quoted text: where it begins in the scene text, and how many bytes it has.
+    // Numbers and no `&str`, so that no instruction borrows from the scene text; and no `Range`, which is not `Copy`.
     Text { place: usize, length: usize },
 }
 
@@ -193,36 +194,25 @@ impl Conversion {
 }
 
 impl Comparison {
-    fn zero_mnemonic(self) -> Mnemonic
-        ensures { result ≡ zero_mnemonic self }
+    /// The mnemonics of the two jumps that compare so: a number with zero, and a number with another.
+    fn mnemonics(self) -> (Mnemonic, Mnemonic)
+        ensures zero { result.0 ≡ zero_mnemonic self }
+        ensures int { result.1 ≡ int_mnemonic self }
     {
         match self {
-            Comparison::Equal => Mnemonic::Ifeq,
-            Comparison::GreaterOrEqual => Mnemonic::Ifge,
-            Comparison::Greater => Mnemonic::Ifgt,
-            Comparison::LessOrEqual => Mnemonic::Ifle,
-            Comparison::Less => Mnemonic::Iflt,
-            Comparison::NotEqual => Mnemonic::Ifne,
-        }
-    }
-
-    // Only the cases' names are the same as above: one function for both would hold both lists.
-    fn int_mnemonic(self) -> Mnemonic
-        ensures { result ≡ int_mnemonic self }
-    {
-        match self {
-            Comparison::Equal => Mnemonic::IfIcmpeq,
-            Comparison::GreaterOrEqual => Mnemonic::IfIcmpge,
-            Comparison::Greater => Mnemonic::IfIcmpgt,
-            Comparison::LessOrEqual => Mnemonic::IfIcmple,
-            Comparison::Less => Mnemonic::IfIcmplt,
-            Comparison::NotEqual => Mnemonic::IfIcmpne,
+            Comparison::Equal => (Mnemonic::Ifeq, Mnemonic::IfIcmpeq),
+            Comparison::GreaterOrEqual => (Mnemonic::Ifge, Mnemonic::IfIcmpge),
+            Comparison::Greater => (Mnemonic::Ifgt, Mnemonic::IfIcmpgt),
+            Comparison::LessOrEqual => (Mnemonic::Ifle, Mnemonic::IfIcmple),
+            Comparison::Less => (Mnemonic::Iflt, Mnemonic::IfIcmplt),
+            Comparison::NotEqual => (Mnemonic::Ifne, Mnemonic::IfIcmpne),
         }
     }
 }
 
 impl PrintType {
     /// The kind of the value that is printed.
+    // A method of each of these types and no trait: nothing takes any type whose values have a kind.
     fn kind(self) -> Kind
         ensures { result ≡ print_kind self }
     {
@@ -294,8 +284,8 @@ impl Instruction {
             Instruction::Store(Number::Long, _) => Mnemonic::Lstore,
             Instruction::Stack(op) => Mnemonic::from(op),
             Instruction::Goto(_) => Mnemonic::Goto,
-            Instruction::IfZero(comparison, _) => comparison.zero_mnemonic(),
-            Instruction::IfCompare(comparison, _) => comparison.int_mnemonic(),
+            Instruction::IfZero(comparison, _) => comparison.mnemonics().0,
+            Instruction::IfCompare(comparison, _) => comparison.mnemonics().1,
             Instruction::GetField(_) | Instruction::GetOutput => Mnemonic::Getstatic,
             Instruction::PutField(_) => Mnemonic::Putstatic,
             Instruction::Call(_) => Mnemonic::Invokestatic,

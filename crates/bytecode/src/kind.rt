@@ -21,6 +21,7 @@ pub enum Kind {
 
 impl Kind {
     /// How many slots a value of this kind takes.
+    // Beside `Cell::slots`, for callers to whom a kind is no cell of an operand stack.
     pub fn slots(self) -> usize
         ensures { result ≡ slots self }
     {

@@ -2,7 +2,7 @@
 use reader::Lines;
 use std::io;
 
-const TEXTS: &[&[u8]] = &[
+pub(crate) const TEXTS: &[&[u8]] = &[
     // no line
     b"",
     // empty lines
@@ -19,14 +19,7 @@ const TEXTS: &[&[u8]] = &[
     b"a\n\n",
 ];
 
-pub(crate) fn print_all(rt: &HostRuntime) -> io::Result<()> {
-    for text in TEXTS {
-        print_lines(rt, text)?;
-    }
-    Ok(())
-}
-
-fn print_lines(rt: &HostRuntime, text: &[u8]) -> io::Result<()> {
+pub(crate) fn print_lines(rt: &HostRuntime, text: &[u8]) -> io::Result<()> {
     println!(rt; "lines [{}]", text.escape_ascii())?;
     for line in Lines::new(text) {
         println!(rt;

@@ -1,8 +1,6 @@
 //! The sorts of words, each with its edges.
-use crate::words::print_words;
-use std::io;
 
-const TEXTS: &[&[u8]] = &[
+pub(crate) const TEXTS: &[&[u8]] = &[
     // directives, of any length
     b". .end .END .x1 ..a .a. end.",
     b".abcdefghijklmnopqrstuvwxyzabcdefghij",
@@ -30,10 +28,3 @@ const TEXTS: &[&[u8]] = &[
     b"<clinit> <init>",
     b"_ ~ !",
 ];
-
-pub(crate) fn print_all(rt: &HostRuntime) -> io::Result<()> {
-    for text in TEXTS {
-        print_words(rt, text)?;
-    }
-    Ok(())
-}

@@ -3,7 +3,7 @@ use crate::report::print_fault;
 use reader::{Line, Lines, Word, Words, check_text};
 use std::io;
 
-const TEXTS: &[&[u8]] = &[
+pub(crate) const TEXTS: &[&[u8]] = &[
     // bytes that no line may have
     b"\x00",
     b"\x08",
@@ -40,12 +40,10 @@ const TEXTS: &[&[u8]] = &[
     b"a\"b c\"d \"e\"",
 ];
 
-pub(crate) fn print_all(rt: &HostRuntime) -> io::Result<()> {
-    for text in TEXTS {
-        println!(rt; "text [{}]", text.escape_ascii())?;
-        print_captions(rt, text)?;
-    }
-    Ok(())
+/// Prints a text, and what `print_captions` prints of it.
+pub(crate) fn print_text(rt: &HostRuntime, text: &[u8]) -> io::Result<()> {
+    println!(rt; "text [{}]", text.escape_ascii())?;
+    print_captions(rt, text)
 }
 
 /// Prints a text's captions and their number, or its refusal.

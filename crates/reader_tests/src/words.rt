@@ -3,7 +3,7 @@ use crate::report::print_fault;
 use reader::{Lines, Token, Word, Words};
 use std::io;
 
-const TEXTS: &[&[u8]] = &[
+pub(crate) const TEXTS: &[&[u8]] = &[
     // words at the front, at the end, and among blanks
     b"a",
     b"a b",
@@ -45,13 +45,6 @@ const TEXTS: &[&[u8]] = &[
     b"a\n\"b\nc\n",
     b"\n\n\x7f\n\"a\"",
 ];
-
-pub(crate) fn print_all(rt: &HostRuntime) -> io::Result<()> {
-    for text in TEXTS {
-        print_words(rt, text)?;
-    }
-    Ok(())
-}
 
 /// Prints the words of each line, and the fault of a line that is refused.
 pub(crate) fn print_words(rt: &HostRuntime, text: &[u8]) -> io::Result<()> {

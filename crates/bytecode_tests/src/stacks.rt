@@ -1,6 +1,6 @@
 use crate::value::Value;
 use bytecode::Kind;
-use operands::{Cell, Stack, StackOp};
+use operands::{Cell, Stack, StackError, StackOp};
 use std::{fmt, io};
 
 /// What is done to a stack.
@@ -147,9 +147,7 @@ fn lines<C: Cell + fmt::Display>(
         print!(rt; "stack")?;
         print_stack(rt, &stack)?;
         for step in *steps {
-            if !carry_out(rt, &mut stack, *step)? {
-                print!(rt; " no")?;
-            }
+            carry_out(rt, &mut stack, *step)?;
             print_stack(rt, &stack)?;
         }
         println!(rt)?;
@@ -157,31 +155,32 @@ fn lines<C: Cell + fmt::Display>(
     Ok(())
 }
 
-/// Whether the step was carried out.
+/// Prints the step, and `no` where it is refused.
 fn carry_out<C: Cell + fmt::Display>(
     rt: &HostRuntime,
     stack: &mut Stack<C>,
     step: Step<C>,
-) -> io::Result<bool> {
+) -> io::Result<()> {
     match step {
         Step::Push(cell) => {
             print!(rt; " push {cell}")?;
-            Ok(stack.push(cell).is_ok())
+            print_refusal(rt, stack.push(cell))
         }
-        Step::Pop => {
-            print!(rt; " take")?;
-            match stack.pop() {
-                Some(cell) => {
-                    print!(rt; " {cell}")?;
-                    Ok(true)
-                }
-                None => Ok(false),
-            }
-        }
+        Step::Pop => match stack.pop() {
+            Some(cell) => print!(rt; " take {cell}"),
+            None => print!(rt; " take no"),
+        },
         Step::Rearrange(op) => {
             print!(rt; " {op}")?;
-            Ok(stack.rearrange(op).is_ok())
+            print_refusal(rt, stack.rearrange(op))
         }
+    }
+}
+
+fn print_refusal(rt: &HostRuntime, done: Result<(), StackError>) -> io::Result<()> {
+    match done {
+        Ok(()) => Ok(()),
+        Err(_) => print!(rt; " no"),
     }
 }
 

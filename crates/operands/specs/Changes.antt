@@ -31,13 +31,16 @@ abbrev pub Refuses : {C : Type 0} → (C → ℕ) → Option (List C) → ℕ �
 Refuses size wanted n Unfit = wanted ≡ None
 Refuses size wanted n NoRoom = (stack : List _) × ((wanted ≡ Some stack) × (Room size n stack → ⊥))
 
+-- There are as many cells as before, and those past both stacks are as they were.
+abbrev pub SameBeyond : {C : Type 0} → Stack C → Stack C → Type 0
+SameBeyond before after =
+    (length after.cells.now ≡ length before.cells.now)
+    × (drop (max before.used after.used) after.cells.now ≡ drop (max before.used after.used) before.cells.now)
+
 -- `Becomes size wanted before r after`: the stack is to become the stack `wanted`. Where r is ok it has become that, and
--- the cells past both are as they were; where r is an error it says why, and nothing is altered.
+-- the cells beyond are as they were; where r is an error it says why, and nothing is altered.
 abbrev pub Becomes : {A C : Type 0} → (C → ℕ) → Option (List C) → Stack C → Result A StackError → Stack C → Type 0
 Becomes size wanted before (Ok _) after =
-    let past = max before.used after.used in (wanted ≡ Some (held after))
-    × (Room size (length before.cells.now) (held after)
-    × ((length after.cells.now ≡ length before.cells.now)
-    × (drop past after.cells.now ≡ drop past before.cells.now)))
+    (wanted ≡ Some (held after)) × (Room size (length before.cells.now) (held after) × SameBeyond before after)
 Becomes size wanted before (Err e) after =
     AltersNothing before after × Refuses size wanted (length before.cells.now) e

@@ -84,6 +84,7 @@ pub enum ReturnType {
 
 impl ReturnType {
     /// The kind of number that a method leaves for its caller; none where it returns nothing.
+    // No `From`, as at `FieldType`.
     pub fn number(self) -> Option<Number>
         ensures { result ≡ return_number self }
     {

@@ -3,6 +3,7 @@ use operands::registers::{self, NoSuchRegister};
 use std::{fmt, io};
 
 /// What is done to registers: a register's number, and the value for a store.
+// An enum, and no closures: a case is a row of a table, and each step is printed too.
 #[derive(Clone, Copy)]
 enum Step<I, J> {
     StoreInt(usize, I),
@@ -165,6 +166,7 @@ fn print_stored<I: Held, J: Held>(
 }
 
 /// What a register holds: nothing more than the kind in a frame of kinds, and the number in a record.
+// A trait, and not `Display` alone: `()` has none.
 trait Held: Copy {
     fn fmt<W: fmt::Write>(self, f: &mut fmt::Formatter<W>) -> fmt::Result;
 }

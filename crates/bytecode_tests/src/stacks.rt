@@ -4,6 +4,7 @@ use operands::{Cell, Stack, StackError, StackOp};
 use std::{fmt, io};
 
 /// What is done to a stack.
+// An enum, and no closures: a case is a row of a table, and each step is printed too.
 #[derive(Clone, Copy)]
 enum Step<C> {
     Push(C),

@@ -20,6 +20,7 @@ impl fmt::Display for NoSuchRegister {
 impl Error for NoSuchRegister {}
 
 /// The int in a register; none where there is no such register, or it holds no int.
+// Not one function with `load_long`: each is one `match`, on one register or on two, and they answer with different types.
 pub fn load_int<I: Copy, J: Copy>(registers: &[Register<I, J>], n: usize) -> Option<I>
     ensures { result ≡ int_at n registers.now }
 {
@@ -90,6 +91,7 @@ fn unset_halves<I: Copy, J: Copy>(
 }
 
 /// Unsets the last register where it holds the first half of a long.
+// Not one function with `unset_second_half`: it would be told the end of the slice and the half, and be longer than both.
 fn unset_first_half<I: Copy, J: Copy>(before: &mut [Register<I, J>])
     ensures { before.new ≡ ending_whole before.old }
 {

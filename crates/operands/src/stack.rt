@@ -67,6 +67,7 @@ impl Error for StackError {}
 
 /// An operand stack in cells that are lent to it: the first `used` of them, the top last. Its methods keep the slice that
 /// was lent, so whoever lent it knows what it holds afterwards.
+// Lent cells and a count, and no `Vec`: the stack of a method lies in a stretch of cells that the caller keeps.
 #[derive(Drop)]
 pub struct Stack<'a, C> {
     cells: &'a mut [C],
@@ -148,6 +149,7 @@ impl<'a, C: Cell> Stack<'a, C> {
         ensures lent { self.new.cells.ghost_name ≡ self.old.cells.ghost_name }
         ensures becomes { Becomes C.size (rearranged C.size op (held self.old)) self.old result self.new }
     {
+        // A `match`, and no functions in a table: these are instructions, which are read from a scene.
         match op {
             StackOp::Dup => self.copy_group(1),
             StackOp::Dup2 => self.copy_group(2),

@@ -78,6 +78,7 @@ fn print_word(rt: &HostRuntime, token: Token<'_>) -> io::Result<()> {
     )
 }
 
+// No `Display` of a type of its own: one line prints it.
 fn sort(word: Word<'_>) -> &'static str {
     match word {
         Word::Directive(_) => "directive",

@@ -1,3 +1,4 @@
+pub mod Gathering
 pub mod Joining
 pub mod Passing
 pub mod Quoting

@@ -15,7 +15,7 @@ use Rattle.reader.specs.Bytes.{is_allowed}
 use Rattle.reader.specs.Arises.{Readable}
 use Rattle.reader.specs.Lines.{lines, line_start, IsLine}
 use Rattle.reader.specs.declared.line.Line.{Line}
-use Rattle.reader.proofs.Gathering.{onto, onto_push, onto_parts, onto_some, onto_none}
+use Rattle.captions.proofs.Gathering.{onto, onto_push, onto_parts, onto_some, onto_none}
 use Rattle.reader.specs.Tokens.{at_place, GivesWord}
 use Rattle.reader.specs.Words.{Piece, words, words_from}
 use Rattle.reader.specs.declared.fault.WordFault.{WordFault}

@@ -1,6 +1,6 @@
 -- The quoted texts among words. Assumes nothing.
 use Rattle.std.proofs.Common.{◌≡◌, ℕ, List, [], ◌++◌, get_or, Some, None, Option, sym, refl, ap, ◌∙◌}
-use Rattle.captions.proofs.Joining.{joined_append}
+use Rattle.std.proofs.lemmas.Grind.{flat_map-append}
 use Rattle.captions.specs.Captions.{quote_in, quotes, quotes_read, line_captions}
 use Rattle.reader.proofs.Refusing.{readable_line}
 use Rattle.reader.specs.Arises.{Readable}
@@ -9,7 +9,7 @@ use Rattle.reader.specs.declared.line.Line.{Line}
 use Rattle.reader.specs.Words.{Piece, words}
 
 pub quotes-append : (xs ys : List Piece) → quotes (xs ++ ys) ≡ quotes xs ++ quotes ys
-quotes-append = joined_append (λ w. quote_in w.sort w.part)
+quotes-append = flat_map-append (λ w. quote_in w.sort w.part)
 
 read_some : (o : Option (List Piece)) → (o ≡ None → ⊥) → (ws : List Piece) × (o ≡ Some ws)
 read_some None h = absurd (h refl)

@@ -4,7 +4,7 @@ use Rattle.std.specs.List.{flat_map}
 use Rattle.std.proofs.lemmas.List.{get_or-append-add, get_or_append_left, take-append-le}
 use Rattle.std.proofs.lemmas.List.Sums.{sum_by-append}
 use Rattle.captions.specs.Sheets.{Shown, ShowsFirst}
-use Rattle.captions.proofs.Joining.{joined_append}
+use Rattle.std.proofs.lemmas.Grind.{flat_map-append}
 use Rattle.devices.specs.Costs.{cost}
 use Rattle.devices.specs.Panels.{PanelState, Room, shown_on}
 
@@ -25,7 +25,7 @@ pub shown_then : (p q r : PanelState) (xs ys : List (List ℕ)) → Shown p xs q
 shown_then p q r xs ys a b =
     let same : sum_by (cost q.rate) ys ≡ sum_by (cost p.rate) ys = ap (λ k. sum_by (cost k) ys) a.rate in
     record {
-      shown = b.shown ∙ ap (λ l. l ++ flat ys) a.shown ∙ append_assoc p.shown (flat xs) (flat ys) ∙ ap (λ l. p.shown ++ l) (sym (joined_append (λ text. text) xs ys));
+      shown = b.shown ∙ ap (λ l. l ++ flat ys) a.shown ∙ append_assoc p.shown (flat xs) (flat ys) ∙ ap (λ l. p.shown ++ l) (sym (flat_map-append (λ text. text) xs ys));
       units = omega (arith, a.units, b.units, same, sum_by-append (cost p.rate) xs ys);
       rate = b.rate ∙ a.rate;
     }

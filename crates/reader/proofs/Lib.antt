@@ -1,5 +1,4 @@
 pub mod Fronts
-pub mod Gathering
 pub mod Reading
 pub mod Refusing
 pub mod Spelling

@@ -10,6 +10,7 @@ pub enum Takes {
 }
 
 /// What an instruction does to the operand stack.
+// Numbers of rows, as in `Instruction`.
 #[derive(Clone, Copy, Debug, PartialEq, Eq)]
 pub enum Effect {
     /// Takes values of these kinds, and leaves a value of that kind or none.

@@ -126,6 +126,8 @@ pub enum Instruction {
 }
 
 impl Constant {
+    // A method, as of the other parts of an instruction, and no `From`: several constants have one mnemonic, and others ask for
+    // a second part.
     fn mnemonic(self) -> Mnemonic
         ensures { result ≡ push_mnemonic self }
     {
@@ -236,7 +238,7 @@ impl ReadType {
     }
 }
 
-/// The mnemonic that is carried out so.
+/// The mnemonic that the operation is written with.
 impl From<StackOp> for Mnemonic {
     ghost from_gives = { λ op mnemonic. mnemonic ≡ stack_mnemonic op };
 
@@ -252,6 +254,7 @@ impl From<StackOp> for Mnemonic {
 }
 
 /// Which instructions can follow another in its method.
+// Numbers of instructions, as in `Instruction`.
 #[derive(Clone, Copy, Debug, PartialEq, Eq)]
 pub enum Flow {
     /// The next one.

@@ -1,5 +1,4 @@
-ghost use Rattle.std.specs.Prelude.{◌≡◌};
-ghost use Rattle.std.specs.Prelude.{Some};
+ghost use Rattle.std.specs.Prelude.{◌≡◌, Some};
 ghost use Rattle.bytecode.specs.Kinds.{kind_letter, kind_of, size, slots};
 ghost use Rattle.std.proofs.Common.{rules};
 

@@ -2,7 +2,7 @@ ghost use Rattle.std.specs.Prelude.{◌≡◌, ◌≤◌, take};
 ghost use Rattle.devices.specs.Buffers.{Appends, capacity};
 ghost use Rattle.devices.specs.Hex.{Inverse};
 ghost use Rattle.devices.specs.Panels.{Shows};
-ghost use Rattle.devices.specs.States.{buffer_state, starting};
+ghost use Rattle.devices.specs.States.{buffer_bounded, buffer_state, starting};
 ghost use Rattle.std.proofs.Common.{rules};
 
 use crate::format::Format;
@@ -61,7 +61,7 @@ impl<'a, F: Format> BufferPanel<'a, F> {
 impl<'a, F: Format> Panel for BufferPanel<'a, F> {
     ghost state = { λ s. buffer_state F.shown F.rate s.buffer.now s.used };
 
-    ghost bounded = { Prim.search rules };
+    ghost bounded = { λ s. buffer_bounded F.shown F.rate F.bounded s.buffer.now s.used };
 
     fn units(&self) -> u32 {
         (self.capacity() - self.used) as u32

@@ -1,11 +1,23 @@
-ghost use Rattle.std.specs.Prelude.{◌≡◌};
+ghost use Rattle.std.specs.Prelude.{◌≡◌, Some, codes};
 ghost use Rattle.devices.specs.Panels.{PanelState, Bounded, Shows};
 
 use crate::rate::Rate;
+use std::error::Error;
+use std::fmt;
 
 /// A text costs more than the units that are left.
 #[derive(Clone, Copy, Debug, PartialEq, Eq)]
 pub struct NoRoom;
+
+impl fmt::Display for NoRoom {
+    ghost output = { λ _. Some (codes "no room") };
+
+    fn fmt<W: fmt::Write>(&self, f: &mut fmt::Formatter<W>) -> fmt::Result {
+        f.write_str("no room")
+    }
+}
+
+impl Error for NoRoom {}
 
 /// What a show's titles go to. A panel means the bytes shown, the units left and its rate.
 pub trait Panel {

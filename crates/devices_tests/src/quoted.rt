@@ -1,6 +1,7 @@
 use std::fmt;
 
 /// Bytes between quotes. One that prints stands for itself; byte 10 is `\n`, and any other is as `\xAB`.
+// Not `escape_ascii`, which leaves spaces as they are and writes a tab as `\t`.
 #[derive(Drop)]
 pub struct Quoted<'a>(pub &'a [u8]);
 

@@ -6,6 +6,7 @@ use std::error::Error;
 use std::fmt;
 
 /// A refusal, with its layer and the line where it arose (0 where it belongs to no line).
+// A number, and no `Option`: the 0 is what is printed.
 // That the layer is the refusal's own is no ghost field: the fields are public, and it would ask a proof of whoever fills them.
 #[derive(Clone, Copy, Debug, PartialEq, Eq)]
 pub struct Fault {
@@ -68,6 +69,7 @@ impl fmt::Display for Fault {
     }
 }
 
+// An `impl` for each of the two: there is none for all types that become a `Fault`, since `Fault` has its own.
 impl fmt::Display for EntryFault {
     ghost output = { λ fault. Some (fault_text (entry_fault fault)) };
 

@@ -48,7 +48,7 @@ pub enum Layer {
 
 impl Refusal {
     /// The number that is printed.
-    // No `From`, here and at `Layer`: `u8::from(refusal)` would not say what the byte is.
+    // A method and no `From`, here and at `Layer`: the number is what a refusal is called, not a refusal in another form.
     pub fn number(self) -> u8
         ensures { result ≡ number_of self }
     {

@@ -50,7 +50,7 @@ impl<'a> Words<'a> {
         match line.get(start) {
             // Blanks run to the line's end.
             None => Ok(None),
-            // A comment does.
+            // So does a comment.
             Some(b';') => Ok(None),
             Some(b'"') => {
                 let place = start + 1;

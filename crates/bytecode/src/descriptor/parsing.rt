@@ -65,7 +65,7 @@ impl Descriptor {
     pub fn parameters(&self) -> &[FieldType]
         ensures { result.now ≡ (signature_of self.now).parameters }
     {
-        &self.parameters[0..self.count]
+        &self.parameters[..self.count]
     }
 
     pub fn result(&self) -> ReturnType

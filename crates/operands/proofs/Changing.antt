@@ -9,7 +9,7 @@ use Rattle.std.proofs.lemmas.List.Sums.{sum_by-append, sum_by-cons}
 use Rattle.operands.specs.Stacks.{Room, copied, rearranged, slots_of, stacked, taken, top_group}
 use Rattle.operands.specs.declared.stack.StackOp.TheVariants.{Swap}
 use Rattle.operands.proofs.Grouping.{group_slots}
-use Rattle.operands.proofs.Stacking.{length-stacked, slots-reverse, stacked-copied, stacked-drop, stacked-swapped, stacked_two, swap_past}
+use Rattle.operands.proofs.Stacking.{length-stacked, stacked-copied, stacked-drop, stacked-swapped, stacked_two, swap_past}
 
 -- the group of a stack, as it is read in a slice
 pub group_read : {C : Type 0} (size : C → ℕ) (n k : ℕ) (read : Option ℕ) (s r : List C) → s ≡ reverse r → read ≡ top_group size n (reverse r) → read ≡ Some k → top_group size n s ≡ Some k
@@ -25,11 +25,9 @@ cell_read cells r used k x within same some enough read =
     ∙ get_or-take used cells (used - k) x (omega arith)
 
 -- the slots of the cells below the top
-pub slots_below : {C : Type 0} (size : C → ℕ) (cells r : List C) (used left : ℕ) → left ≤ used → r ≡ take used cells → slots_of size (take left r) ≡ slots_of size (stacked cells left)
+pub slots_below : {C : Type 0} (size : C → ℕ) (cells r : List C) (used left : ℕ) → left ≤ used → r ≡ take used cells → slots_of size (reverse (take left r)) ≡ slots_of size (stacked cells left)
 slots_below size cells r used left h e =
-    ap (λ l. slots_of size (take left l)) e
-    ∙ ap (slots_of size) (take-take left used cells h)
-    ∙ sym (slots-reverse size (take left cells))
+    ap (λ l. slots_of size (reverse (take left l))) e ∙ ap (λ l. slots_of size (reverse l)) (take-take left used cells h)
 
 -- the two cells on top are exchanged
 pub exchanged : {C : Type 0} (size : C → ℕ) (s t : List C) (x y : C) → s ≡ x ∷ y ∷ t → size x ≡ 1 → size y ≡ 1 → rearranged size Swap s ≡ Some (y ∷ x ∷ t)

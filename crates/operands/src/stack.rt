@@ -227,7 +227,8 @@ pub fn cells_in_use<C>(cells: &[C], used: usize) -> &[C]
 
 /// How many slots the cells take together. A `usize` holds how many cells a slice has, but not always twice as many.
 pub fn slots_of<C: Cell>(cells: &[C]) -> u128
-    ensures { result ≡ slots_of C.size cells.now }
+    ensures list { result ≡ slots_of C.size cells.now }
+    ensures stack { result ≡ slots_of C.size (reverse cells.now) }
 {
     cells.iter().map(|cell| cell.slots() as u128).sum()
 }

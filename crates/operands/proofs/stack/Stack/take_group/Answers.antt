@@ -10,7 +10,7 @@ returns-then-slots_of-gt-MOST_SLOTS-clause-becomes g c =
     let k = c.in_ok-count.count in
     let group = group_read size c.args.slots k c.top_group.result (held s) c.cells.result.now c.cells.ensures.stack c.top_group.ensures c.in_ok-count.ensures.ok_part in
     let below = slots_below size s.cells.now c.cells-2.result.now s.used (s.used - k) (omega arith) c.cells-2.ensures.list in
-    ((refl, refl), taken_refused size s.cells.now s.used s.within c.args.slots k group (omega (arith, below, c.slots_of.ensures, c.if-slots_of-gt-MOST_SLOTS.true)))
+    ((refl, refl), taken_refused size s.cells.now s.used s.within c.args.slots k group (omega (arith, below, c.slots_of.ensures.stack, c.if-slots_of-gt-MOST_SLOTS.true)))
 
 pub returns-clause-becomes : goal.returns-clause-becomes
 returns-clause-becomes g c =
@@ -19,4 +19,4 @@ returns-clause-becomes g c =
     let k = c.in_ok-count.count in
     let group = group_read size c.args.slots k c.top_group.result (held s) c.cells.result.now c.cells.ensures.stack c.top_group.ensures c.in_ok-count.ensures.ok_part in
     let below = slots_below size s.cells.now c.cells-2.result.now s.used (s.used - k) (omega arith) c.cells-2.ensures.list in
-    taken_made size s.cells.now s.used s.within c.args.slots k group _ (omega arith) (omega (arith, below, c.slots_of.ensures, c.if-slots_of-gt-MOST_SLOTS.false))
+    taken_made size s.cells.now s.used s.within c.args.slots k group _ (omega arith) (omega (arith, below, c.slots_of.ensures.stack, c.if-slots_of-gt-MOST_SLOTS.false))

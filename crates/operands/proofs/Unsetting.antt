@@ -1,5 +1,5 @@
 -- Registers as the code alters them, one by one, are what a store makes of them. Assumes nothing.
-use Rattle.std.proofs.Common.{◌≡◌, ℕ, zero, suc, ◌+◌, ◌-◌, ◌≤◌, List, [], ◌∷◌, ◌++◌, length, get_or, take, drop, set, Some, sym, ap, ◌∙◌, arith, length-take}
+use Rattle.std.proofs.Common.{◌≡◌, ℕ, zero, suc, ◌+◌, ◌-◌, ◌≤◌, List, [], ◌∷◌, ◌++◌, length, get_or, take, drop, set, Some, sym, refl, ap, ◌∙◌, arith, length-take}
 use Rattle.std.proofs.lemmas.List.{drop_more, set_at, set-append_right}
 use Rattle.std.proofs.lemmas.Bool.{le-leb}
 use Rattle.operands.specs.declared.register.Register.{Register}
@@ -17,6 +17,13 @@ module _ {I J : Type 0} where
   ending_last (x ∷ []) (suc n) r h e = absurd (omega (arith, h))
   ending_last (x ∷ y ∷ ys) zero r h e = absurd (omega (arith, h))
   ending_last (x ∷ y ∷ ys) (suc n) r h e = ap (λ l. x ∷ l) (ending_last (y ∷ ys) n r (omega (arith, h)) e)
+
+  -- a register that is no first half stays
+  pub no_first_other : (r : Register I J) → ((v : J) → r ≡ LongFirst v → ⊥) → no_first r ≡ r
+  no_first_other Unset other = refl
+  no_first_other (Int v) other = refl
+  no_first_other (LongFirst v) other = absurd (other v refl)
+  no_first_other LongSecond other = refl
 
   front_length : (rs : List (Register I J)) (n k : ℕ) → n + k ≤ length rs → length (ending_whole (take n rs)) ≡ n
   front_length rs n k fits = length-ending_whole (take n rs) ∙ omega (arith, length-take n rs)

@@ -1,5 +1,5 @@
 ghost use Rattle.std.specs.Prelude.{◌≡◌, ◌+◌, ◌<◌, ◌≤◌, ◌++◌, length, take, drop, OnOk, OnErr, Some, codes};
-ghost use Rattle.operands.specs.Registers.{KeepsPairs, StoresAs, ending_whole, starting_whole, no_first, no_second, int_at, int_cells, long_at, long_cells, stored};
+ghost use Rattle.operands.specs.Registers.{KeepsPairs, StoresAs, ending_whole, starting_whole, int_at, int_cells, long_at, long_cells, stored};
 
 use crate::register::Register;
 use std::error::Error;
@@ -21,6 +21,8 @@ impl Error for NoSuchRegister {}
 
 /// The int in a register; none where there is no such register, or it holds no int.
 // Not one function with `load_long`: each is one `match`, on one register or on two, and they answer with different types.
+// Two parameters, and no struct, here and in the stores: the slice is one, and the register's number is an instruction's
+// operand.
 pub fn load_int<I: Copy, J: Copy>(registers: &[Register<I, J>], n: usize) -> Option<I>
     ensures { result ≡ int_at n registers.now }
 {
@@ -57,6 +59,8 @@ pub fn store_int<I: Copy, J: Copy>(
 
 /// Stores a long into a register and the next one. Where these held half of another long, its other half is unset. Where
 /// there are no such registers nothing is altered.
+// Not one function with `store_int`: what is stored would be lent as a slice, and that the array behind it, of registers
+// whose numbers are of any type, takes fewer than 2^63 bytes only a caller could know.
 pub fn store_long<I: Copy, J: Copy>(
     registers: &mut [Register<I, J>],
     n: usize,
@@ -71,8 +75,6 @@ pub fn store_long<I: Copy, J: Copy>(
     Ok(())
 }
 
-// What is to be stored is not handed in as a slice: the array behind it, of registers whose numbers are of any type, would
-// have to be known to take fewer than 2^63 bytes, and only a caller could know.
 /// Unsets the register before the `count` from `n` on where it holds a first half, and the one after them where it holds a
 /// second half.
 fn unset_halves<I: Copy, J: Copy>(
@@ -91,12 +93,15 @@ fn unset_halves<I: Copy, J: Copy>(
 }
 
 /// Unsets the last register where it holds the first half of a long.
+// `matches!`, and no pattern within the `Some`: where its arms join, a proof no longer knows what the slice holds.
 // Not one function with `unset_second_half`: it would be told the end of the slice and the half, and be longer than both.
 fn unset_first_half<I: Copy, J: Copy>(before: &mut [Register<I, J>])
     ensures { before.new ≡ ending_whole before.old }
 {
     if let Some(last) = before.last_mut() {
-        *last = no_first_half(*last);
+        if matches!(last, Register::LongFirst(_)) {
+            *last = Register::Unset;
+        }
     }
 }
 
@@ -105,26 +110,8 @@ fn unset_second_half<I: Copy, J: Copy>(after: &mut [Register<I, J>])
     ensures { after.new ≡ starting_whole after.old }
 {
     if let Some(first) = after.first_mut() {
-        *first = no_second_half(*first);
-    }
-}
-
-/// The register, unset if it holds the first half of a long.
-fn no_first_half<I: Copy, J: Copy>(register: Register<I, J>) -> Register<I, J>
-    ensures { result ≡ no_first register }
-{
-    match register {
-        Register::LongFirst(_) => Register::Unset,
-        _ => register,
-    }
-}
-
-/// The register, unset if it holds the second half of a long.
-fn no_second_half<I: Copy, J: Copy>(register: Register<I, J>) -> Register<I, J>
-    ensures { result ≡ no_second register }
-{
-    match register {
-        Register::LongSecond => Register::Unset,
-        _ => register,
+        if matches!(first, Register::LongSecond) {
+            *first = Register::Unset;
+        }
     }
 }

@@ -1,9 +1,25 @@
-use Rattle.std.proofs.Common.{◌-◌, length, set, ap, ◌∙◌, arith}
-use Rattle.operands.proofs.Unsetting.{ending_last}
+use Rattle.std.proofs.Common.{◌-◌, length, set, sym, ap, ◌∙◌, arith}
+use Rattle.operands.specs.Registers.{no_first}
+use Rattle.operands.proofs.Unsetting.{ending_last, no_first_other}
+use Rattle.operands.proofs.registers.unset_first_half.Goals.{in-LongFirst, in_default-matches}
 use Rattle.operands.proofs.registers.unset_first_half.Goals as goal
 
-pub returns-in-Some : goal.returns-in-Some
-returns-in-Some g c =
+pub returns-then-matches : goal.returns-then-matches
+returns-then-matches g c =
     let rs = c.args.before.now in
     let item = c.in-Some.ensures.item in
-    ap (set rs (length rs - 1)) c.no_first_half.ensures ∙ ending_last rs (length rs - 1) c.in-Some.last.now (omega (arith, item.3.0)) item.1
+    let whole = ending_last rs (length rs - 1) c.in-Some.last.now (omega (arith, item.3.0)) item.1 in
+    elim c.match-matches.branch [
+      | in-LongFirst w ↦ ap (λ r. set rs (length rs - 1) r) (sym (ap no_first w.in-LongFirst.is)) ∙ whole
+      | in_default-matches w ↦ cc
+    ]
+
+pub returns-else-matches : goal.returns-else-matches
+returns-else-matches g c =
+    let rs = c.args.before.now in
+    let item = c.in-Some.ensures.item in
+    let whole = ending_last rs (length rs - 1) c.in-Some.last.now (omega (arith, item.3.0)) item.1 in
+    elim c.match-matches.branch [
+      | in-LongFirst w ↦ cc
+      | in_default-matches w ↦ ap (λ r. set rs (length rs - 1) r) (sym (no_first_other c.in-Some.last.now w.in_default-matches.not-LongFirst)) ∙ whole
+    ]

@@ -96,7 +96,7 @@ impl<'a, C: Cell> Stack<'a, C> {
     pub fn used(&self) -> usize
         ensures { result ≡ self.now.used }
     {
-        self.cells().len()
+        self.used
     }
 
     /// The cells of the stack, the top last.

@@ -14,15 +14,15 @@ abbrev pub HasRoom : {C : Type 0} → (C → ℕ) → Stack C → ℕ → ℕ �
 HasRoom size s cells slots =
     (s.used + cells ≤ length s.cells.now) × (slots_of size (held s) + slots ≤ 16)
 
--- Neither the cells nor how many are in use.
+-- The same cells are lent, which hold what they held, and as many are in use.
 abbrev pub AltersNothing : {C : Type 0} → Stack C → Stack C → Type 0
-AltersNothing before after = (after.cells.now ≡ before.cells.now) × (after.used ≡ before.used)
+AltersNothing before after = (after.cells ≡ before.cells) × (after.used ≡ before.used)
 
--- `Pops before r after`: r is the top, and what lay below it is the stack then; none where the stack is empty. The cells
--- are as they were.
+-- `Pops before r after`: r is the top, and what lay below it is the stack then; none where the stack is empty. The same
+-- cells are lent, which hold what they held.
 abbrev pub Pops : {C : Type 0} → Stack C → Option C → Stack C → Type 0
 Pops before (Some x) after =
-    (held before ≡ x ∷ held after) × ((after.cells.now ≡ before.cells.now) × (after.used + 1 ≡ before.used))
+    (held before ≡ x ∷ held after) × ((after.cells ≡ before.cells) × (after.used + 1 ≡ before.used))
 Pops before None after = (held before ≡ []) × AltersNothing before after
 
 -- Why the stack `wanted` is refused where n cells were lent: the instruction does not fit, so that nothing is wanted; or
@@ -31,11 +31,12 @@ abbrev pub Refuses : {C : Type 0} → (C → ℕ) → Option (List C) → ℕ �
 Refuses size wanted n Unfit = wanted ≡ None
 Refuses size wanted n NoRoom = (stack : List _) × ((wanted ≡ Some stack) × (Room size n stack → ⊥))
 
--- There are as many cells as before, and those past both stacks are as they were.
+-- The same cells are lent, as many as before, and those past both stacks are as they were.
 abbrev pub SameBeyond : {C : Type 0} → Stack C → Stack C → Type 0
 SameBeyond before after =
-    (length after.cells.now ≡ length before.cells.now)
-    × (drop (max before.used after.used) after.cells.now ≡ drop (max before.used after.used) before.cells.now)
+    (after.cells.ghost_name ≡ before.cells.ghost_name)
+    × ((length after.cells.now ≡ length before.cells.now)
+    × (drop (max before.used after.used) after.cells.now ≡ drop (max before.used after.used) before.cells.now))
 
 -- `Becomes size wanted before r after`: the stack is to become the stack `wanted`. Where r is ok it has become that, and
 -- the cells beyond are as they were; where r is an error it says why, and nothing is altered.

@@ -123,8 +123,7 @@ impl<'a, C: Cell> Stack<'a, C> {
 
     /// Takes the top off; none where the stack is empty.
     pub fn pop(&mut self) -> Option<C>
-        ensures lent { self.new.cells.ghost_name ≡ self.old.cells.ghost_name }
-        ensures taken { Pops self.old result self.new }
+        ensures { Pops self.old result self.new }
     {
         let top = self.peek()?;
         self.used -= 1;
@@ -133,7 +132,6 @@ impl<'a, C: Cell> Stack<'a, C> {
 
     /// Puts a cell on top. Refuses where there is no room for it.
     pub fn push(&mut self, cell: C) -> Result<(), StackError>
-        ensures lent { self.new.cells.ghost_name ≡ self.old.cells.ghost_name }
         ensures becomes { Becomes C.size (Some (cell ∷ held self.old)) self.old result self.new }
         ensures few { FewCells C.size }
     {
@@ -146,8 +144,7 @@ impl<'a, C: Cell> Stack<'a, C> {
     /// Carries out `dup`, `dup2`, `pop`, `pop2` or `swap`. Refuses where that does not fit the cells on top, or there is
     /// no room for what it leaves.
     pub fn rearrange(&mut self, op: StackOp) -> Result<(), StackError>
-        ensures lent { self.new.cells.ghost_name ≡ self.old.cells.ghost_name }
-        ensures becomes { Becomes C.size (rearranged C.size op (held self.old)) self.old result self.new }
+        ensures { Becomes C.size (rearranged C.size op (held self.old)) self.old result self.new }
     {
         // A `match`, and no functions in a table: these are instructions, which are read from a scene.
         match op {
@@ -173,8 +170,7 @@ impl<'a, C: Cell> Stack<'a, C> {
 
     /// Copies the cells on top that take so many slots.
     fn copy_group(&mut self, slots: usize) -> Result<(), StackError>
-        ensures lent { self.new.cells.ghost_name ≡ self.old.cells.ghost_name }
-        ensures becomes { Becomes C.size (copied C.size slots (held self.old)) self.old result self.new }
+        ensures { Becomes C.size (copied C.size slots (held self.old)) self.old result self.new }
     {
         let count = top_group(self.cells(), slots).ok_or(StackError::Unfit)?;
         self.check_room(count, slots)?;
@@ -186,8 +182,7 @@ impl<'a, C: Cell> Stack<'a, C> {
 
     /// Takes away the cells on top that take so many slots.
     fn take_group(&mut self, slots: usize) -> Result<(), StackError>
-        ensures lent { self.new.cells.ghost_name ≡ self.old.cells.ghost_name }
-        ensures becomes { Becomes C.size (taken C.size slots (held self.old)) self.old result self.new }
+        ensures { Becomes C.size (taken C.size slots (held self.old)) self.old result self.new }
     {
         let count = top_group(self.cells(), slots).ok_or(StackError::Unfit)?;
         let left = self.used - count;
@@ -201,8 +196,7 @@ impl<'a, C: Cell> Stack<'a, C> {
 
     /// Exchanges the two cells of one slot on top.
     fn swap(&mut self) -> Result<(), StackError>
-        ensures lent { self.new.cells.ghost_name ≡ self.old.cells.ghost_name }
-        ensures becomes { Becomes C.size (rearranged C.size Swap (held self.old)) self.old result self.new }
+        ensures { Becomes C.size (rearranged C.size Swap (held self.old)) self.old result self.new }
     {
         let [.., second, top] = self.cells() else {
             return Err(StackError::Unfit);

@@ -11,12 +11,12 @@ use Rattle.operands.proofs.Storing.{length-ending_whole}
 
 module _ {I J : Type 0} where
   -- the last register, where it is a first half, unset
-  pub ending_last : (rs : List (Register I J)) (n : ℕ) (r : Register I J) → length rs ≡ n + 1 → r ≡ get_or rs n r → set rs n (no_first r) ≡ ending_whole rs
-  ending_last [] n r h e = absurd (omega (arith, h))
-  ending_last (x ∷ []) zero r h e = ap (λ t. no_first t ∷ []) e
-  ending_last (x ∷ []) (suc n) r h e = absurd (omega (arith, h))
-  ending_last (x ∷ y ∷ ys) zero r h e = absurd (omega (arith, h))
-  ending_last (x ∷ y ∷ ys) (suc n) r h e = ap (λ l. x ∷ l) (ending_last (y ∷ ys) n r (omega (arith, h)) e)
+  pub ending_last : (rs : List (Register I J)) (n : ℕ) (r s : Register I J) → length rs ≡ n + 1 → r ≡ get_or rs n r → s ≡ no_first r → set rs n s ≡ ending_whole rs
+  ending_last [] n r s h e is = absurd (omega (arith, h))
+  ending_last (x ∷ []) zero r s h e is = ap (λ t. t ∷ []) (is ∙ ap no_first e)
+  ending_last (x ∷ []) (suc n) r s h e is = absurd (omega (arith, h))
+  ending_last (x ∷ y ∷ ys) zero r s h e is = absurd (omega (arith, h))
+  ending_last (x ∷ y ∷ ys) (suc n) r s h e is = ap (λ l. x ∷ l) (ending_last (y ∷ ys) n r s (omega (arith, h)) e is)
 
   -- a register that is no first half stays
   pub no_first_other : (r : Register I J) → ((v : J) → r ≡ LongFirst v → ⊥) → no_first r ≡ r

@@ -122,6 +122,7 @@ impl From<ReturnType> for u8 {
 }
 
 /// The letter of what is returned.
+// An `impl` for each type that has a letter: there is none for all that become a `u8`.
 impl fmt::Display for ReturnType {
     ghost output = { λ returned. Some (return_letter returned ∷ []) };
 

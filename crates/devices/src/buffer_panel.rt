@@ -3,7 +3,6 @@ ghost use Rattle.devices.specs.Buffers.{Appends, capacity};
 ghost use Rattle.devices.specs.Hex.{Inverse};
 ghost use Rattle.devices.specs.Panels.{Shows};
 ghost use Rattle.devices.specs.States.{buffer_bounded, buffer_state, starting};
-ghost use Rattle.std.proofs.Common.{rules};
 
 use crate::format::Format;
 use crate::panel::{NoRoom, Panel};

@@ -52,7 +52,7 @@ impl Format for HexLines {
 }
 
 /// The upper-case hexadecimal digit of a number.
-// By hand: the library writes digits only by a formatter or into memory of its own.
+// By hand: the library writes upper-case digits only by a formatter or into memory of its own.
 fn hex_digit(n: u8) -> u8
     requires { n < 16 }
     ensures { result ≡ digit n }

@@ -11,7 +11,7 @@ Front part w = take (length part) w ≡ part
 front_all : (w : List ℕ) → Front w w
 front_all w = take_all (length w) w (omega arith)
 
-front_take : (n : ℕ) (w : List ℕ) → n ≤ length w → Front (take n w) w
+pub front_take : (n : ℕ) (w : List ℕ) → n ≤ length w → Front (take n w) w
 front_take n w h = ap (λ k. take k w) (length-take-le n w h)
 
 plain_front : (p : ℕ) (w : List ℕ) → Front (plain p w).part w

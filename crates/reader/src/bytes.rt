@@ -30,5 +30,10 @@ pub(crate) fn run_end<F: Fn(u8) -> bool>(bytes: &[u8], from: usize, test: F) -> 
     ensures within { from ≤ length bytes.now → result ≤ length bytes.now }
     ensures value { (p : ℕ → Bool) → ((b : ℕ) (r : Bool) → F.post test b r → r ≡ p b) → result ≡ from + prefix_len p (drop from bytes.now) }
 {
-    from + bytes.iter().skip(from).take_while(|b| test(**b)).count()
+    if from >= bytes.len() {
+        return from;
+    }
+    // Of the bytes from there on, since `skip` goes through all those before it, one by one.
+    let rest = &bytes[from..];
+    from + rest.iter().take_while(|b| test(**b)).count()
 }

@@ -1,5 +1,5 @@
 -- The laws of `cost`, which is opened here and nowhere else. Assumes nothing.
-use Rattle.std.proofs.Common.{◌≡◌, ℕ, ◌+◌, ◌*◌, ◌<◌, List, [], ◌∷◌, length, Ok, Err, Result, refl, ap, arith, length-append}
+use Rattle.std.proofs.Common.{◌≡◌, ℕ, ◌+◌, ◌*◌, ◌<◌, List, [], ◌∷◌, length, Ok, Err, Result, refl, ap, ◌∙◌, arith, length-append}
 use Rattle.devices.specs.Costs.{cost}
 use Rattle.devices.specs.Hex.{hex, line}
 use Rattle.devices.specs.Laws.{CostLaws}
@@ -35,6 +35,13 @@ pub frames_cost : (t : List ℕ) → cost frames_rate t ≡ length (line t)
 unfolding cost
 frames_cost [] = refl
 frames_cost (b ∷ t) = omega (arith, length-hex (b ∷ t), length-append (hex (b ∷ t)) (10 ∷ []))
+
+-- what is computed as the cost of a text at these rates
+pub roll_price : (rate : Rate) (t : List ℕ) (n : ℕ) → rate ≡ roll_rate → n ≡ cost rate t → n ≡ length t
+roll_price rate t n same e = e ∙ ap (λ r. cost r t) same ∙ roll_cost t
+
+pub frames_price : (rate : Rate) (t : List ℕ) (n : ℕ) → rate ≡ frames_rate → n ≡ cost rate t → n ≡ length (line t)
+frames_price rate t n same e = e ∙ ap (λ r. cost r t) same ∙ frames_cost t
 
 kept : (p q : PanelState) (text : List ℕ) (r : Result (Unit {0}) NoRoom) → Shows p text r q → q.rate ≡ p.rate
 kept p q text (Ok _) h = ap (λ s. s.rate) h.1

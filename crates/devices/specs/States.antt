@@ -1,7 +1,8 @@
 -- What the panels over a buffer mean. Assumes nothing.
 use Rattle.std.specs.Prelude.{ℕ, ◌-◌, List, [], take}
-use Rattle.std.proofs.Common.{arith}
+use Rattle.std.proofs.Common.{arith, lit≤}
 use Rattle.devices.specs.Buffers.{capacity}
+use Rattle.devices.specs.Hex.{joined_texts}
 use Rattle.devices.specs.Panels.{Bounded, PanelState}
 use Rattle.devices.specs.declared.rate.Rate.{Rate}
 
@@ -23,3 +24,16 @@ roll_rate = record { byte = 1; text = 0 }
 
 abbrev pub frames_rate : Rate
 frames_rate = record { byte = 2; text = 1 }
+
+-- What panels in the two formats mean, and that their numbers are within their bounds: for every buffer, whatever is written.
+abbrev pub roll_state : List ℕ → ℕ → PanelState
+roll_state buffer n = buffer_state (λ w. w) roll_rate buffer n
+
+abbrev pub frames_state : List ℕ → ℕ → PanelState
+frames_state buffer n = buffer_state joined_texts frames_rate buffer n
+
+pub roll_bounded : (buffer : List ℕ) (n : ℕ) → Bounded (roll_state buffer n)
+roll_bounded buffer n = buffer_bounded (λ w. w) roll_rate (record { units_most = omega arith; byte_least = lit≤ tt; byte_most = lit≤ tt; text_most = lit≤ tt }) buffer n
+
+pub frames_bounded : (buffer : List ℕ) (n : ℕ) → Bounded (frames_state buffer n)
+frames_bounded buffer n = buffer_bounded joined_texts frames_rate (record { units_most = omega arith; byte_least = lit≤ tt; byte_most = lit≤ tt; text_most = lit≤ tt }) buffer n

@@ -34,13 +34,14 @@ impl Format for HexLines {
     }
 
     fn write(text: &[u8], space: &mut [u8]) -> Result<usize, NoRoom> {
+        if Self::rate().cost(text.len()) > space.len() as u128 {
+            return Err(NoRoom);
+        }
         if text.is_empty() {
             return Ok(0);
         }
         let end = 2 * text.len();
-        if end >= space.len() {
-            return Err(NoRoom);
-        }
+        prove!(end < space.len());
         // By index, since of what is written through the items of `chunks_exact_mut` no proof knows the bytes.
         for (i, b) in text.iter().enumerate() {
             space[2 * i] = hex_digit(*b / 16);

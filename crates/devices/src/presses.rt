@@ -1,6 +1,5 @@
 ghost use Rattle.std.specs.Prelude.{◌≡◌, ◌^◌, ◌<◌, replicate};
-ghost use Rattle.std.proofs.Common.{rules};
-ghost use Rattle.std.proofs.lemmas.Grind.{common_steps};
+ghost use Rattle.devices.specs.Keys.{presses_countable};
 
 use crate::keys::KeySource;
 
@@ -25,7 +24,7 @@ impl Presses {
 impl KeySource for Presses {
     ghost keys = { λ s. replicate s.left s.key };
 
-    ghost countable = { Prim.search (rules, common_steps) };
+    ghost countable = { λ s. presses_countable s.left s.key s.countable };
 
     fn waiting(&self) -> u64 {
         self.left

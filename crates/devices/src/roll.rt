@@ -32,9 +32,10 @@ impl Format for Plain {
 
     fn write(text: &[u8], space: &mut [u8]) -> Result<usize, NoRoom> {
         let len = text.len();
-        if len > space.len() {
+        if Self::rate().cost(len) > space.len() as u128 {
             return Err(NoRoom);
         }
+        prove!(len <= space.len());
         space[..len].copy_from_slice(text);
         Ok(len)
     }

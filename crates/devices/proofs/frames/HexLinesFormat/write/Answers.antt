@@ -3,31 +3,37 @@ use Rattle.std.specs.List.{AllByRecursion}
 use Rattle.std.proofs.lemmas.List.{take_all, take_more, length-take-le, length_push}
 use Rattle.std.proofs.lemmas.Bool.Decides.{nat_tests}
 use Rattle.std.proofs.ByRecursion.{All-from_get_or}
-use Rattle.devices.specs.Hex.{hex}
+use Rattle.devices.specs.Hex.{hex, line}
 use Rattle.devices.proofs.Appending.{written_at}
-use Rattle.devices.proofs.Costing.{frames_cost}
+use Rattle.devices.proofs.Costing.{frames_cost, frames_price}
 use Rattle.devices.proofs.Decoding.{hex_push, length-hex, length-line, line_some}
 use Rattle.devices.proofs.Formats.{adds_line}
 use Rattle.devices.proofs.frames.HexLinesFormat.write.Goals as goal
-use Rattle.devices.proofs.frames.HexLinesFormat.write.Goals.{After-is_empty}
+use Rattle.devices.proofs.frames.HexLinesFormat.write.Goals.{After-cost}
 
-bytes : (c : After-is_empty) → AllByRecursion (λ b. b < 256) c.args.text.now
+bytes : (c : After-cost) → AllByRecursion (λ b. b < 256) c.args.text.now
 bytes c = All-from_get_or (λ b. b < 256) c.args.text.now 0 (λ i _. let h = c.type_inv.text i in search rules)
+
+price : (c : After-cost) → c.cost.result ≡ length (line c.args.text.now)
+price c = frames_price _ c.args.text.now _ c.rate.ensures (c.cost.ensures.value c.args.text.now refl)
+
+pub returns-then-cost-space-clause-writes : goal.returns-then-cost-space-clause-writes
+returns-then-cost-space-clause-writes c = (omega (arith, price (goal.at.returns-then-cost-space-clause-writes c).After-cost), refl)
+
+pub returns-then-cost-space-clause-charges : goal.returns-then-cost-space-clause-charges
+returns-then-cost-space-clause-charges c = frames_cost c.args.text.now
+
+pub returns-then-cost-space-clause-adds : goal.returns-then-cost-space-clause-adds
+returns-then-cost-space-clause-adds c = adds_line _ (bytes (goal.at.returns-then-cost-space-clause-adds c).After-cost)
 
 pub returns-then-is_empty-clause-charges : goal.returns-then-is_empty-clause-charges
 returns-then-is_empty-clause-charges c = frames_cost c.args.text.now
 
-pub returns-then-end-space-clause-writes : goal.returns-then-end-space-clause-writes
-returns-then-end-space-clause-writes c =
+pub prove-unreachable-requires : goal.prove-unreachable-requires
+prove-unreachable-requires c =
     let h = c.if-is_empty.ensures in
     let some : 0 < length c.args.text.now = grind (arith, nat_tests) in
-    (omega (arith, length-line c.args.text.now some), refl)
-
-pub returns-then-end-space-clause-charges : goal.returns-then-end-space-clause-charges
-returns-then-end-space-clause-charges c = frames_cost c.args.text.now
-
-pub returns-then-end-space-clause-adds : goal.returns-then-end-space-clause-adds
-returns-then-end-space-clause-adds c = adds_line _ (bytes (goal.at.returns-then-end-space-clause-adds c).After-is_empty)
+    omega (arith, price (goal.at.prove-unreachable-requires c).After-cost, length-line c.args.text.now some)
 
 pub loop-i-preserved : goal.loop-i-preserved
 loop-i-preserved c =
@@ -65,4 +71,4 @@ pub returns-clause-charges : goal.returns-clause-charges
 returns-clause-charges c = frames_cost c.args.text.now
 
 pub returns-clause-adds : goal.returns-clause-adds
-returns-clause-adds c = adds_line _ (bytes (goal.at.returns-clause-adds c).After-is_empty)
+returns-clause-adds c = adds_line _ (bytes (goal.at.returns-clause-adds c).After-cost)

@@ -9,7 +9,7 @@ use Rattle.std.proofs.lemmas.List.Sums.{sum_by-append, sum_by-cons}
 use Rattle.operands.specs.Stacks.{Room, copied, rearranged, slots_of, stacked, taken, top_group}
 use Rattle.operands.specs.declared.stack.StackOp.TheVariants.{Swap}
 use Rattle.operands.proofs.Grouping.{group_slots}
-use Rattle.operands.proofs.Stacking.{length-stacked, stacked-copied, stacked-drop, stacked-swapped, stacked_two, swap_past}
+use Rattle.operands.proofs.Stacking.{length-stacked-le, stacked-copied, stacked-drop, stacked-swapped, stacked_two, swap_past}
 
 -- the group of a stack, as it is read in a slice
 pub group_read : {C : Type 0} (size : C → ℕ) (n k : ℕ) (read : Option ℕ) (s r : List C) → s ≡ reverse r → read ≡ top_group size n (reverse r) → read ≡ Some k → top_group size n s ≡ Some k
@@ -44,11 +44,11 @@ module _ {C : Type 0} (size : C → ℕ) (cells : List C) (used : ℕ) (within :
 
   made : (wanted : Option (List C)) (w after : List C) (m : ℕ) → wanted ≡ Some w → stacked after m ≡ w → slots_of size w ≤ 16 → m ≤ length cells → length after ≡ length cells → drop (max used m) after ≡ drop (max used m) cells → Made wanted after m
   made wanted w after m e lies few short long rest =
-      (e ∙ ap Some (sym lies), ((subst (λ s. slots_of size s ≤ 16) (sym lies) few, omega (arith, length-stacked after m (omega arith))), (long, rest)))
+      (e ∙ ap Some (sym lies), ((subst (λ s. slots_of size s ≤ 16) (sym lies) few, omega (arith, length-stacked-le after m (omega arith))), (long, rest)))
 
   module _ (slots k : ℕ) (group : top_group size slots (stacked cells used) ≡ Some k) where
     few : k ≤ used
-    few = omega (arith, length-stacked cells used within, (group_slots size slots k (stacked cells used) group).0)
+    few = omega (arith, length-stacked-le cells used within, (group_slots size slots k (stacked cells used) group).0)
 
     copied_slots : slots_of size (take k (stacked cells used) ++ stacked cells used) ≡ slots + slots_of size (stacked cells used)
     copied_slots =

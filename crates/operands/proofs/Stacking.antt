@@ -1,15 +1,30 @@
 -- The stack that lies in a slice, and what a write makes of it. Assumes nothing.
-use Rattle.std.proofs.Common.{◌≡◌, ℕ, ◌+◌, ◌-◌, ◌*◌, ◌<◌, ◌≤◌, List, [], ◌∷◌, ◌++◌, reverse, length, get_or, take, drop, set, Some, sum_by, sym, refl, ap, ◌∙◌, arith, length-take}
+use Rattle.std.proofs.Common.{◌≡◌, ℕ, ◌+◌, ◌-◌, ◌*◌, ◌<◌, ◌≤◌, min, List, [], ◌∷◌, ◌++◌, reverse, length, get_or, take, drop, set, Some, sum_by, sym, refl, ap, ◌∙◌, arith, length-take}
 use mathlib.Core.List.{reverse-cons}
 use Rattle.std.specs.List.{copy_within, swap}
-use Rattle.std.proofs.lemmas.List.{drop_at, drop-set-lt, get_or_read, drop-take, length-drop, length-reverse, length-set, reverse-append, take-append-drop, take_at, take-take, take_more, take_more_set}
+use Rattle.std.proofs.lemmas.List.{drop_at, drop-set-lt, get_or_read, drop-take, length-drop, length-reverse, length_push, length-set, reverse-append, take-append-drop, take_at, take-take, take_more, take_more_set}
 use Rattle.std.proofs.lemmas.List.Edits.{take-paste}
+use Rattle.std.proofs.Math.Seq.{take-append_seam}
 use Rattle.std.proofs.lemmas.List.Sums.{sum_by-cons, sum_by_push}
 use Rattle.operands.specs.Stacks.{stacked, slots_of, top_of, FewCells}
 
 module _ {C : Type 0} (cells : List C) where
-  pub length-stacked : (n : ℕ) → n ≤ length cells → length (stacked cells n) ≡ n
-  length-stacked n within = length-reverse (take n cells) ∙ omega (arith, length-take n cells)
+  pub length-stacked : (n : ℕ) → length (stacked cells n) ≡ min n (length cells)
+  length-stacked n = length-reverse (take n cells) ∙ length-take n cells
+
+  pub length-stacked-le : (n : ℕ) → n ≤ length cells → length (stacked cells n) ≡ n
+  length-stacked-le n within = omega (arith, length-stacked n)
+
+  -- the last of the cells in use is the top, and the others lie below it
+  pub stacked-last : (used : ℕ) (below : List C) (x : C) → take used cells ≡ below ++ x ∷ [] → (stacked cells used ≡ x ∷ stacked cells (length below)) × ((length below < used) × (length below < length cells))
+  stacked-last used below x e =
+      let n = length below in
+      let long : min used (length cells) ≡ n + 1 = sym (length-take used cells) ∙ ap length e ∙ length_push below x in
+      let front : below ≡ take n cells =
+      sym (take-append_seam below (x ∷ [])) ∙ ap (take n) (sym e) ∙ take-take n used cells (omega (arith, long)) in (
+        ap reverse e ∙ reverse-append below (x ∷ []) ∙ ap (λ l. x ∷ reverse l) front,
+        (omega (arith, long), omega (arith, long)),
+      )
 
   -- the last of the first cells is the top
   pub stacked_more : (n : ℕ) (x : C) → n < length cells → x ≡ get_or cells n x → stacked cells (n + 1) ≡ x ∷ stacked cells n
@@ -93,7 +108,7 @@ first (y ∷ s) x e = let same : y ≡ x = cc in (omega arith, ap (λ z. z ∷ s
 pub popped : {C : Type 0} (cells : List C) (n left : ℕ) (x : C) → n ≤ length cells → top_of (stacked cells n) ≡ Some x → left ≡ n - 1 → (1 ≤ n) × (stacked cells n ≡ x ∷ stacked cells left)
 popped cells n left x within e is =
     let f = first (stacked cells n) x e in
-    let some : 1 ≤ n = omega (arith, f.0, length-stacked cells n within) in
+    let some : 1 ≤ n = omega (arith, f.0, length-stacked-le cells n within) in
     (some, f.1 ∙ ap (λ s. x ∷ s) (stacked-drop cells n 1 some within) ∙ ap (λ m. x ∷ stacked cells m) (sym is))
 
 module _ {C : Type 0} (size : C → ℕ) where

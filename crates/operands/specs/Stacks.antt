@@ -1,5 +1,5 @@
 -- The operand stack, over any sort of cell that tells its slots. Assumes nothing.
-use Rattle.std.specs.Prelude.{ℕ, ◌+◌, ◌≤◌, Bool, cond, ◌&&◌, List, [], ◌∷◌, ◌++◌, reverse, length, take, drop, Some, None, sum_by, Option, option_map, ◌==◌, codes}
+use Rattle.std.specs.Prelude.{◌≡◌, ℕ, ◌+◌, ◌<◌, ◌≤◌, max, Bool, cond, ◌&&◌, List, [], ◌∷◌, ◌++◌, reverse, length, take, drop, Some, None, sum_by, Option, option_map, ◌==◌, codes}
 use Rattle.operands.specs.declared.stack.StackError.{StackError}
 use Rattle.operands.specs.declared.stack.StackError.TheVariants.{Unfit, NoRoom}
 use Rattle.operands.specs.declared.stack.StackOp.{StackOp}
@@ -18,6 +18,12 @@ slots_of size stack = sum_by size stack
 abbrev pub top_of : {C : Type 0} → List C → Option C
 top_of [] = None
 top_of (x ∷ s) = Some x
+
+-- `Pops cells used r`: r is the top of the stack of the first `used` cells with how many cells lie below it; none where
+-- the stack is empty.
+abbrev pub Pops : {C : Type 0} → List C → ℕ → Option (C × ℕ) → Type 0
+Pops cells used (Some p) = (stacked cells used ≡ p.0 ∷ stacked cells p.1) × ((p.1 < used) × (p.1 < length cells))
+Pops cells used None = stacked cells used ≡ []
 
 abbrev pub when : {X : Type 0} → Bool → X → Option X
 when b x = cond b (Some x) None
@@ -73,3 +79,11 @@ Room size n stack = (slots_of size stack ≤ 16) × (length stack ≤ n)
 -- A stack of at most 16 slots has at most 16 cells.
 abbrev pub FewCells : {C : Type 0} → (C → ℕ) → Type 0
 FewCells size = (stack : List _) → slots_of size stack ≤ 16 → length stack ≤ 16
+
+-- `Becomes size wanted cells used r after`: the stack of the first `used` cells is to become the stack `wanted`. Where
+-- r is a count it has become that, and the cells past both are as they were; where r is none, nothing is wanted or it
+-- has no room, and nothing is altered.
+abbrev pub Becomes : {C : Type 0} → (C → ℕ) → Option (List C) → List C → ℕ → Option ℕ → List C → Type 0
+Becomes size wanted cells used (Some m) after =
+    (wanted ≡ Some (stacked after m)) × (Room size (length cells) (stacked after m) × ((m ≤ length after) × (drop (max used m) after ≡ drop (max used m) cells)))
+Becomes size wanted cells used None after = (after ≡ cells) × ((stack : List _) → wanted ≡ Some stack → Room size (length cells) stack → ⊥)

@@ -1,4 +1,5 @@
 ghost use Rattle.std.specs.Prelude.{◌≡◌, ℕ, ◌+◌, ◌≤◌, ◌∷◌, Some, Err, OnOk, OnErr, length, min, reverse, take};
+ghost use Rattle.operands.specs.Stacks as lent;
 ghost use Rattle.operands.specs.Stacks.{FewCells, copied, error_text, op_text, rearranged, slots_of, stacked, taken, top_group, top_of};
 
 use std::error::Error;
@@ -225,6 +226,55 @@ pub fn slots_of<C: Cell>(cells: &[C]) -> u128
     ensures stack { result ≡ slots_of C.size (reverse cells.now) }
 {
     cells.iter().map(|cell| cell.slots() as u128).sum()
+}
+
+/// How many slots the stack of the first `used` cells takes.
+pub fn slots<C: Cell>(cells: &[C], used: usize) -> u128
+    ensures { result ≡ slots_of C.size (stacked cells.now used) }
+{
+    slots_of(cells_in_use(cells, used))
+}
+
+/// The top of the stack of the first `used` cells; none where it is empty.
+pub fn peek<C: Cell>(cells: &[C], used: usize) -> Option<C>
+    ensures { result ≡ top_of (stacked cells.now used) }
+{
+    cells_in_use(cells, used).last().copied()
+}
+
+/// The top of that stack, and how many cells are left below it; none where it is empty.
+pub fn pop<C: Cell>(cells: &[C], used: usize) -> Option<(C, usize)>
+    ensures { lent.Pops cells.now used result }
+{
+    let (top, below) = cells_in_use(cells, used).split_last()?;
+    Some((*top, below.len()))
+}
+
+/// Puts a cell on top of the first `used` cells and answers how many there are then. Refuses where there is no room for
+/// it, and then alters nothing.
+// Beside `Stack::push`, for whoever lends a part of a slice: when this returns, a proof knows what the part holds.
+pub fn push<C: Cell>(cells: &mut [C], used: usize, cell: C) -> Option<usize>
+    ensures becomes { lent.Becomes C.size (Some (cell ∷ stacked cells.old used)) cells.old used result cells.new }
+    ensures few { FewCells C.size }
+{
+    let mut stack = Stack::new(cells, used);
+    match stack.push(cell) {
+        Ok(()) => Some(stack.used()),
+        Err(_) => None,
+    }
+}
+
+/// Carries out `dup`, `dup2`, `pop`, `pop2` or `swap` on the first `used` cells and answers how many there are then.
+/// Refuses where that does not fit the cells on top, or there is no room for what it leaves, and then alters nothing.
+// Beside `Stack::rearrange`, as `push`.
+pub fn rearrange<C: Cell>(cells: &mut [C], used: usize, op: StackOp) -> Option<usize>
+    ensures { lent.Becomes C.size (rearranged C.size op (stacked cells.old used)) cells.old used result cells.new }
+{
+    let mut stack = Stack::new(cells, used);
+    match stack.rearrange(op) {
+        Ok(()) => Some(stack.used()),
+        Err(_) => None,
+    }
 }
 
 /// How many cells on top take so many slots together, where one or two do.

@@ -9,11 +9,11 @@ use Rattle.bytecode.specs.declared.mnemonic.Row.{Row}
 use Rattle.bytecode.specs.declared.mnemonic.Mnemonic.{Mnemonic}
 use Rattle.bytecode.specs.declared.mnemonic.Mnemonic.TheVariants.{Iadd, Idiv, Imul, Ineg, Irem, Ishl, Ishr, Isub, Ladd, Ldiv, Lmul, Lneg, Lrem, Lshl, Lshr, Lsub, LdcW, Ldc2W, Sipush, Goto, IfIcmpeq, IfIcmpge, IfIcmpgt, IfIcmple, IfIcmplt, IfIcmpne, Ifeq, Ifge, Ifgt, Ifle, Iflt, Ifne, Ireturn, Lcmp, Lreturn, Nop, Return, I2c, I2s, I2l, L2i, Dup, Dup2, Pop, Pop2, Swap, Getstatic, Invokestatic, Putstatic, Iload, Istore, Lload, Lstore}
 
-abbrev mnemonics : List Mnemonic
+abbrev pub mnemonics : List Mnemonic
 mnemonics = Iadd ∷ Idiv ∷ Imul ∷ Ineg ∷ Irem ∷ Ishl ∷ Ishr ∷ Isub ∷ Ladd ∷ Ldiv ∷ Lmul ∷ Lneg ∷ Lrem ∷ Lshl ∷ Lshr ∷ Lsub ∷ LdcW ∷ Ldc2W ∷ Sipush ∷ Goto ∷ IfIcmpeq ∷ IfIcmpge ∷ IfIcmpgt ∷ IfIcmple ∷ IfIcmplt ∷ IfIcmpne ∷ Ifeq ∷ Ifge ∷ Ifgt ∷ Ifle ∷ Iflt ∷ Ifne ∷ Ireturn ∷ Lcmp ∷ Lreturn ∷ Nop ∷ Return ∷ I2c ∷ I2s ∷ I2l ∷ L2i ∷ Dup ∷ Dup2 ∷ Pop ∷ Pop2 ∷ Swap ∷ Getstatic ∷ Invokestatic ∷ Putstatic ∷ Iload ∷ Istore ∷ Lload ∷ Lstore ∷ []
 
 -- each has its place in the list
-placed : (m : Mnemonic) → (k : ℕ) × (k < 53) × (get_or mnemonics k Iadd ≡ m)
+pub placed : (m : Mnemonic) → (k : ℕ) × (k < 53) × (get_or mnemonics k Iadd ≡ m)
 placed Iadd = (0, lit< tt, refl)
 placed Idiv = (1, lit< tt, refl)
 placed Imul = (2, lit< tt, refl)
@@ -85,7 +85,7 @@ first m =
     let same = ap (λ l. get_or l p.0 None) each_first in
     ap (λ n. spelled_in mnemonics (spelling n)) (sym p.2) ∙ sym at ∙ same ∙ here ∙ ap Some p.2
 
-spelled_once : (m n : Mnemonic) → spelling m ≡ spelling n → m ≡ n
+pub spelled_once : (m n : Mnemonic) → spelling m ≡ spelling n → m ≡ n
 spelled_once m n e = let same = sym (first m) ∙ ap (spelled_in mnemonics) e ∙ first n in cc
 
 -- the columns of the table
